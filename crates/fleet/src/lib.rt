@@ -1,0 +1,6 @@
+pub mod interface;
+pub mod layer;
+pub mod load;
+pub mod rule;
+pub mod tally;
+pub mod visit;
