@@ -1,0 +1,4 @@
+pub mod Limits
+pub mod Areas
+pub mod Quotas
+pub mod HeldLoads

@@ -1,0 +1,4 @@
+pub mod limits;
+pub mod rules;
+pub mod share;
+pub mod weight;

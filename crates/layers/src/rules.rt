@@ -1,0 +1,2 @@
+pub mod reserve;
+pub mod weight;
