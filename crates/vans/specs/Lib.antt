@@ -1,0 +1,13 @@
+pub mod Limits
+pub mod Vans
+pub mod Figures
+pub mod Rounds
+pub mod Insertions
+pub mod Rule
+pub mod Cheapest
+pub mod Chosen
+pub mod Fleets
+pub mod Meaning
+pub mod Locations
+pub mod Theorem
+pub mod Examples
