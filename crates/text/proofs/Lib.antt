@@ -1,0 +1,5 @@
+pub mod Parted
+pub mod Digits
+pub mod Readings
+pub mod Growing
+pub mod Back
