@@ -1,0 +1,5 @@
+pub mod Orders
+pub mod Queues
+pub mod Entries
+pub mod Deadlines
+pub mod Plans
