@@ -1,0 +1,11 @@
+pub mod Limits
+pub mod Answers
+pub mod States
+pub mod Deadlines
+pub mod Changes
+pub mod Records
+pub mod Queued
+pub mod Lapses
+pub mod Laws
+pub mod Agendas
+pub mod Tables

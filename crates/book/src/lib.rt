@@ -1,0 +1,10 @@
+mod agenda;
+pub mod answer;
+pub mod call;
+mod change;
+mod deadline;
+pub mod limits;
+pub mod memory;
+mod offers;
+pub mod record;
+pub mod state;
