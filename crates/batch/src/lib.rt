@@ -1,0 +1,4 @@
+mod hearing;
+mod listing;
+pub mod respond;
+pub mod workspace;

@@ -1,0 +1,4 @@
+pub mod Sections
+pub mod Entered
+pub mod Written
+pub mod Called

@@ -1,0 +1,4 @@
+pub mod limits;
+pub mod line;
+pub mod setup;
+mod values;

@@ -1,0 +1,4 @@
+pub mod entry;
+pub mod memory;
+pub mod refusal;
+pub mod sheet;
