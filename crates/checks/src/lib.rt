@@ -1,0 +1,5 @@
+#[cfg(test)]
+mod day;
+#[cfg(test)]
+mod lines;
+pub mod trial;
