@@ -1,3 +1,5 @@
+#![tactic(auto)]
+
 pub mod admission;
 pub mod area;
 pub mod areaquotas;

@@ -1,3 +1,5 @@
+#![tactic(auto)]
+
 mod hearing;
 mod listing;
 pub mod respond;

@@ -1,3 +1,5 @@
+#![tactic(auto)]
+
 pub mod limits;
 pub mod line;
 pub mod setup;

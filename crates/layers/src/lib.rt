@@ -1,3 +1,5 @@
+#![tactic(auto)]
+
 pub mod limits;
 pub mod rules;
 pub mod share;

@@ -1,3 +1,5 @@
+#![tactic(auto)]
+
 mod agenda;
 pub mod change;
 pub mod memory;

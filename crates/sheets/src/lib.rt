@@ -1,3 +1,5 @@
+#![tactic(auto)]
+
 pub mod account;
 mod row;
 pub mod visits;

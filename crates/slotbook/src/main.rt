@@ -1,3 +1,5 @@
+#![tactic(auto)]
+
 use batch::respond::{INPUT_BYTES, respond};
 use batch::workspace::Workspace;
 use batch::workspace::reserves::OUTPUT_BYTES;

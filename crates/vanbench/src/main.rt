@@ -1,4 +1,6 @@
 // Full rounds for a measurement: 8 vans with 23 stops each, then so many checks, and so many places with a remove.
+#![tactic(auto)]
+
 use fleet::interface::{Fleet, Routed};
 use std::env;
 use stops::class::Class;
