@@ -36,7 +36,7 @@ impl Buffer {
         let held = self.bytes.len();
         let done = self.add_pieces(pieces);
         if done.is_err() {
-            self.truncate(held);
+            self.bytes.truncate(held);
         }
         done
     }
