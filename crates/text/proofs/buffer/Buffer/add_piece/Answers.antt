@@ -11,4 +11,4 @@ returns-in-Word c =
 
 pub returns-in-Number : goal.returns-in-Number
 returns-in-Number c =
-    subst (λ (p : Piece). Partly (piece p) c.args.self.now c.add-number.result c.add-number.new.self) (sym c.in-Number.is) (partly (decimal c.in-Number.n) c.args.self.now c.add-number.result c.add-number.new.self c.add-number.ensures)
+    subst (λ (p : Piece). Partly (piece p) c.args.self.now c.add_number.result c.add_number.new.self) (sym c.in-Number.is) (partly (decimal c.in-Number.n) c.args.self.now c.add_number.result c.add_number.new.self c.add_number.ensures)
