@@ -9,7 +9,7 @@ returns g c =
     let u = c.args.self.now.rule in
     let s = c.args.stop.now in
     let held = vec_items c.args.self.now.held in
-    let answer = tested g.Q.Admission.own u s c.as-slice.result.now held c.admits.result c.as-slice.ensures.value c.admits.ensures in
+    let answer = tested g.Q.Admission.own u s c.as_slice.result.now held c.admits.result c.as_slice.ensures.value c.admits.ensures in
     record {
       answer = answer;
       room = λ h. omega (arith, g.met.Q.Admission.bounded u (stops_of held) s (sym answer ∙ h), length-map held (λ p. p.1), c.args.self.now.held.ok.0);

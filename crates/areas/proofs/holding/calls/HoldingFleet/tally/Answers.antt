@@ -7,7 +7,7 @@ use Rattle.areas.proofs.holding.calls.HoldingFleet.tally.Goals as goal
 pub loop-entry-preserved : goal.loop-entry-preserved
 loop-entry-preserved g c =
     let b = one_at_most c.args.slot c.entry-item.result.1 in
-    let l = c.as-slice-load.result.now in
+    let l = c.as_slice-load.result.now in
     let i = c.loop-entry.entry-index in
     let e = c.one-one.ensures in
     let inv = c.loop-entry.invariant in (
@@ -23,5 +23,5 @@ pub returns : goal.returns
 returns g c =
     let inv = c.loop-entry.invariant in
     let held = vec_items c.args.self.now.held in
-    let counts = tally_all c.loop-entry.tally c.as-slice-load.result.now held c.loop-entry.entry-index c.args.slot c.loop-entry-test.false c.as-slice-load.ensures.value inv.0 inv.1 inv.2 in
+    let counts = tally_all c.loop-entry.tally c.as_slice-load.result.now held c.loop-entry.entry-index c.args.slot c.loop-entry-test.false c.as_slice-load.ensures.value inv.0 inv.1 inv.2 in
     record { counts = counts; above = tally_above c.loop-entry.tally (stops_of held) c.args.slot counts }
