@@ -4,4 +4,4 @@ use Rattle.vans.proofs.round.Round.find.Goals as goal
 
 pub returns : goal.returns
 returns c =
-    subst (λ (l : Load). MatchOption c.position.result (held c.args.number l ≡ false) (First c.args.number l)) c.as-slice.ensures.value c.position.ensures
+    subst (λ (l : Load). MatchOption c.position.result (held c.args.number l ≡ false) (First c.args.number l)) c.as_slice.ensures.value c.position.ensures

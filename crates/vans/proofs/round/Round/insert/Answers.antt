@@ -9,14 +9,14 @@ use Rattle.vans.proofs.round.Round.insert.Goals as goal
 done : (b : Bool) (xs ys zs : Load) → b ≡ true → zs ≡ cond b ys xs → zs ≡ ys
 done b xs ys zs t e = e ∙ ap (λ d. cond d ys xs) t
 
-pub invariant-of-self : goal.invariant-of-self
-invariant-of-self c =
+pub invariant_of-self : goal.invariant_of-self
+invariant_of-self c =
     let r = c.args.self.now in
     let e = c.insert.ensures in
     let ok = e.succeeds (room_inserted r c.args.position c.args.visit.1 c.requires.within c.requires.lawful) in
     let w = visits_inserted r.van (vec_items r.visits) (vec_items c.insert.new.self) c.args.position c.args.visit (done _ _ _ _ ok e.items) c.requires.lawful in
     let n = length-map (vec_items c.insert.new.self) (λ (x : ℕ × Stop). x.1) in
-    (omega (arith, n, w.short, c.insert.new.self.ok.0), (w.light, (∣ w.timely ∣₁, (omega (arith, e.capacity, r.room), tt))))
+    record { short = omega (arith, n, w.short, c.insert.new.self.ok.0); light = w.light; timely = ∣ w.timely ∣₁; room = omega (arith, e.capacity, r.room) }
 
 pub returns : goal.returns
 returns c =

@@ -17,7 +17,7 @@ loop-i-preserved c =
     let h : c.loop-i.i - 1 < length (stops_in c.args.self.now) = simp length-map (omega arith) in
     let m = latest_more v l i c.stop.result h c.stop.ensures in
     let o = c.loop-i.invariant.0 (i + 1) (omega arith) (omega arith) in
-    let e = c.latest_begin.ensures ∙ (ap (λ (p : Place). latest_begin v c.stop.result p (get_or c.loop-i.latest (i + 1) 0)) c.next-place-next.ensures ∙ (ap (latest_begin v c.stop.result (next_place (drop (i + 1) l))) o ∙ sym m)) in (
+    let e = c.latest_begin.ensures ∙ (ap (λ (p : Place). latest_begin v c.stop.result p (get_or c.loop-i.latest (i + 1) 0)) c.next_place-next.ensures ∙ (ap (latest_begin v c.stop.result (next_place (drop (i + 1) l))) o ∙ sym m)) in (
       fill_back (λ k. latest v (drop k l)) c.loop-i.latest (vec_len c.args.self.now.visits) c.loop-i.i c.latest_begin.result (omega arith) (omega (arith, c.loop-i.invariant.1)) c.loop-i.invariant.0 e,
       length-set c.loop-i.latest i c.latest_begin.result ∙ c.loop-i.invariant.1,
     )

@@ -7,7 +7,7 @@ use Rattle.vans.proofs.round.Round.tally.Goals as goal
 pub loop-visit-preserved : goal.loop-visit-preserved
 loop-visit-preserved c =
     let b = one_at_most c.args.slot c.visit-item.result.1 in
-    let l = c.as-slice-visits.result.now in
+    let l = c.as_slice-visits.result.now in
     let i = c.loop-visit.visit-index in
     let e = c.one.ensures in
     let j = c.joined-tally.ensures in
@@ -24,8 +24,8 @@ loop-visit-preserved c =
 pub returns : goal.returns
 returns c =
     let inv = c.loop-visit.invariant in
-    let n : c.loop-visit.visit-index ≤ stop_limit = omega (arith, c.as-slice-visits.ensures.len, c.args.self.now.short, c.loop-visit.auto.visit-index-end) in
+    let n : c.loop-visit.visit-index ≤ stop_limit = omega (arith, c.as_slice-visits.ensures.len, c.args.self.now.short, c.loop-visit.auto.visit-index-end) in
     record {
-      counts = tally_all c.loop-visit.tally c.as-slice-visits.result.now _ c.loop-visit.visit-index c.args.slot c.loop-visit-test.false c.as-slice-visits.ensures.value inv.0 inv.1 inv.2;
+      counts = tally_all c.loop-visit.tally c.as_slice-visits.result.now _ c.loop-visit.visit-index c.args.slot c.loop-visit-test.false c.as_slice-visits.ensures.value inv.0 inv.1 inv.2;
       few = (omega (arith, inv.3), omega (arith, inv.4), omega (arith, inv.5));
     }

@@ -5,8 +5,8 @@ use Rattle.vans.specs.Rounds.{total_units}
 use Rattle.vans.specs.RoundFacts.{units_more, units_front}
 use Rattle.vans.proofs.round.Round.units.Goals as goal
 
-pub overflow-add-sum : goal.overflow-add-sum
-overflow-add-sum c =
+pub overflow_add-sum : goal.overflow_add-sum
+overflow_add-sum c =
     let h : c.loop-i.i < length (stops_in c.args.self.now) = simp length-map (omega arith) in
     omega (arith, units_more (stops_in c.args.self.now) c.loop-i.i c.stop-sum.result h c.stop-sum.ensures, units_front (stops_in c.args.self.now) (c.loop-i.i + 1), c.args.self.now.light)
 

@@ -12,8 +12,8 @@ loop-i-preserved c =
     let h : c.loop-i.i < length rs = omega (arith, inv.0, c.loop-i.self.rounds.ok.0) in
     let k : c.loop-i.i < length (vans_of c.args.self.now) = omega (arith, length-map (vec_items c.args.self.now.rounds) (λ (r : Round). r.van), c.args.self.now.rounds.ok.0) in (
       inv.0,
-      vans_kept rs c.loop-i.i c.index-mut.result.now c.clear.new.self h c.index-mut.ensures.value c.clear.ensures.van ∙ inv.1,
-      cleared_more rs (vans_of c.args.self.now) c.loop-i.i c.index-mut.result.now.van c.clear.new.self h k c.clear.ensures.visits inv.2,
+      vans_kept rs c.loop-i.i c.index_mut.result.now c.clear.new.self h c.index_mut.ensures.value c.clear.ensures.van ∙ inv.1,
+      cleared_more rs (vans_of c.args.self.now) c.loop-i.i c.index_mut.result.now.van c.clear.new.self h k c.clear.ensures.visits inv.2,
     )
 
 pub returns : goal.returns

@@ -38,7 +38,7 @@ loop-van-preserved c =
     let n : c.loop-van.van < length rs = omega (arith, c.args.self.now.rounds.ok.0) in
     let m : c.loop-van.van < length (rounds_in rs) = omega (arith, length-map rs (λ (r : Round). vec_items r.visits)) in
     let e = round_here rs c.loop-van.van c.index.result.now n c.index.ensures in
-    not_yet c.args.number (rounds_in rs) c.loop-van.van m c.loop-van.invariant (sym (ap (held c.args.number) e) ∙ c.in-default.ensures)
+    not_yet c.args.number (rounds_in rs) c.loop-van.van m c.loop-van.invariant (sym (ap (held c.args.number) e) ∙ c.in_default.ensures)
 
 pub returns : goal.returns
 returns c =

@@ -9,10 +9,10 @@ use Rattle.vans.proofs.vanfleet.VanFleet.new.Goals as goal
 pub loop-i-preserved : goal.loop-i-preserved
 loop-i-preserved c =
     let inv = c.loop-i.invariant in
-    let e = c.push-reserved.ensures in
+    let e = c.push_reserved.ensures in
     let f = c.new.ensures in
     let rs = vec_items c.loop-i.rounds in
-    let qs = vec_items c.push-reserved.new.self in (
+    let qs = vec_items c.push_reserved.new.self in (
       omega (arith, e.len, inv.0),
       omega (arith, e.capacity, inv.1),
       omega (arith, c.remove.ensures.len, inv.2),
@@ -24,7 +24,7 @@ pub returns : goal.returns
 returns c =
     let inv = c.loop-i.invariant in
     let t = take_all c.loop-i.i c.args.vans.now c.loop-i-test.false in
-    record { made = (c.few-enough.ensures.0 c.if-not-few-enough.false, inv.3 ∙ t, inv.4 ∙ ap cleared t); theorem = van_theorem; examples = examples }
+    record { made = (c.few_enough.ensures.0 c.if-not-few_enough.false, inv.3 ∙ t, inv.4 ∙ ap cleared t); theorem = van_theorem; examples = examples }
 
 pub loop-i-init : goal.loop-i-init
 loop-i-init c =
@@ -32,7 +32,7 @@ loop-i-init c =
     let e = nil_from_length (vec_items m.rounds) (sym m.rounds.ok.0 ∙ m.empty) in
     (m.empty, m.room, omega (arith, m.enough), ap vans_in e, ap rounds_in e)
 
-pub returns-then-not-few-enough : goal.returns-then-not-few-enough
-returns-then-not-few-enough c =
-    let f = not_from_Decides c.few-enough.result c.few-enough.ensures c.if-not-few-enough.true in
+pub returns-then-not-few_enough : goal.returns-then-not-few_enough
+returns-then-not-few_enough c =
+    let f = not_from_Decides c.few_enough.result c.few_enough.ensures c.if-not-few_enough.true in
     record { made = (omega arith, refl); theorem = van_theorem; examples = examples }

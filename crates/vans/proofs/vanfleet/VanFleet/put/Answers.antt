@@ -10,23 +10,23 @@ use Rattle.vans.proofs.FleetSearch.{fits_here}
 use Rattle.vans.proofs.OneRound.{vans_kept, rounds_set}
 use Rattle.vans.proofs.vanfleet.VanFleet.put.Goals as goal
 
-pub index-mut-requires : goal.index-mut-requires
-index-mut-requires c =
+pub index_mut-requires : goal.index_mut-requires
+index_mut-requires c =
     omega (arith, fits_van (vans_of c.args.self.now) (rounds_of c.args.self.now) c.args.stop c.in-Some.c.van c.in-Some.c.position c.in-Some.ensures.cheapest.fits, length-map (vec_items c.args.self.now.rounds) (λ (r : Round). r.van), c.args.self.now.rounds.ok.0)
 
 pub insert-requires : goal.insert-requires
 insert-requires c =
     let f = c.in-Some.ensures.cheapest in
     let n : c.in-Some.c.van < length (vec_items c.args.self.now.rounds) = omega (arith, fits_van (vans_of c.args.self.now) (rounds_of c.args.self.now) c.args.stop c.in-Some.c.van c.in-Some.c.position f.fits, length-map (vec_items c.args.self.now.rounds) (λ (r : Round). r.van)) in
-    let h = fits_here (vec_items c.args.self.now.rounds) c.args.stop c.in-Some.c.van c.in-Some.c.position c.index-mut.result.now n c.index-mut.ensures.value f.fits in
-    record { within = omega (arith, h.0, round_length c.index-mut.result.now); lawful = h.1 }
+    let h = fits_here (vec_items c.args.self.now.rounds) c.args.stop c.in-Some.c.van c.in-Some.c.position c.index_mut.result.now n c.index_mut.ensures.value f.fits in
+    record { within = omega (arith, h.0, round_length c.index_mut.result.now); lawful = h.1 }
 
 pub returns-in-Some : goal.returns-in-Some
 returns-in-Some c =
     let f = c.in-Some.ensures.cheapest in
     let n : c.in-Some.c.van < length (vec_items c.args.self.now.rounds) = omega (arith, fits_van (vans_of c.args.self.now) (rounds_of c.args.self.now) c.args.stop c.in-Some.c.van c.in-Some.c.position f.fits, length-map (vec_items c.args.self.now.rounds) (λ (r : Round). r.van)) in
     record {
-      setup = vans_kept (vec_items c.args.self.now.rounds) c.in-Some.c.van c.index-mut.result.now c.insert.new.self n c.index-mut.ensures.value c.insert.ensures.van;
+      setup = vans_kept (vec_items c.args.self.now.rounds) c.in-Some.c.van c.index_mut.result.now c.insert.new.self n c.index_mut.ensures.value c.insert.ensures.van;
       choice = c.in-Some.ensures.value;
-      standing = rounds_set (λ (l : Load). insert l c.in-Some.c.position ((c.args.number, c.args.stop))) (vec_items c.args.self.now.rounds) c.in-Some.c.van c.index-mut.result.now c.insert.new.self n c.index-mut.ensures.value c.insert.ensures.visits;
+      standing = rounds_set (λ (l : Load). insert l c.in-Some.c.position ((c.args.number, c.args.stop))) (vec_items c.args.self.now.rounds) c.in-Some.c.van c.index_mut.result.now c.insert.new.self n c.index_mut.ensures.value c.insert.ensures.visits;
     }

@@ -11,9 +11,9 @@ remove-requires c =
     let rs = vec_items c.args.self.now.rounds in
     let f = c.in-Some.ensures in
     let n : c.in-Some.found.van < length rs = omega (arith, f.van, length-map rs (λ (r : Round). vec_items r.visits)) in
-    let e = round_here rs c.in-Some.found.van c.index-mut.result.now n c.index-mut.ensures.value in
-    let p : c.in-Some.found.position < length (vec_items c.index-mut.result.now.visits) = subst (λ (l : Load). c.in-Some.found.position < length l) (sym e) f.position in
-    omega (arith, p, c.index-mut.result.now.visits.ok.0)
+    let e = round_here rs c.in-Some.found.van c.index_mut.result.now n c.index_mut.ensures.value in
+    let p : c.in-Some.found.position < length (vec_items c.index_mut.result.now.visits) = subst (λ (l : Load). c.in-Some.found.position < length l) (sym e) f.position in
+    omega (arith, p, c.index_mut.result.now.visits.ok.0)
 
 pub returns-in-Some : goal.returns-in-Some
 returns-in-Some c =
@@ -21,12 +21,12 @@ returns-in-Some c =
     let f = c.in-Some.ensures in
     let n : c.in-Some.found.van < length rs = omega (arith, f.van, length-map rs (λ (r : Round). vec_items r.visits)) in
     record {
-      setup = vans_kept rs c.in-Some.found.van c.index-mut.result.now c.remove.new.self n c.index-mut.ensures.value c.remove.ensures.van;
+      setup = vans_kept rs c.in-Some.found.van c.index_mut.result.now c.remove.new.self n c.index_mut.ensures.value c.remove.ensures.van;
       held = sym f.there;
-      standing = rounds_set (λ (l : Load). remove l c.in-Some.found.position) rs c.in-Some.found.van c.index-mut.result.now c.remove.new.self n c.index-mut.ensures.value c.remove.ensures.visits ∙ f.rest;
+      standing = rounds_set (λ (l : Load). remove l c.in-Some.found.position) rs c.in-Some.found.van c.index_mut.result.now c.remove.new.self n c.index_mut.ensures.value c.remove.ensures.visits ∙ f.rest;
     }
 
-pub index-mut-requires : goal.index-mut-requires
-index-mut-requires c =
+pub index_mut-requires : goal.index_mut-requires
+index_mut-requires c =
     let rs = vec_items c.args.self.now.rounds in
     omega (arith, c.in-Some.ensures.van, length-map rs (λ (r : Round). vec_items r.visits), c.args.self.now.rounds.ok.0)

@@ -8,8 +8,8 @@ use Rattle.vans.proofs.OneRound.{round_here}
 use Rattle.vans.specs.Visiting.{not_visited}
 use Rattle.vans.proofs.vanfleet.calls.VanFleetRouted.visit.Goals as goal
 
-pub overflow-cast-result : goal.overflow-cast-result
-overflow-cast-result c =
+pub overflow_cast-result : goal.overflow_cast-result
+overflow_cast-result c =
     let rs = vec_items c.args.self.now.rounds in
     omega (arith, c.in-Some.ensures.van, length-map rs (λ (r : Round). vec_items r.visits), c.args.self.now.rounds.ok.0, c.args.self.now.few)
 
