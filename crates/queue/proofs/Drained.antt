@@ -7,6 +7,9 @@ use Rattle.std.specs.Cmp.{IsTotalOrder}
 use Rattle.std.specs.List.{AllByRecursion as All}
 use Rattle.std.proofs.ByRecursion.{All-push, All-weaker}
 use Rattle.std.proofs.lemmas.List.{take_more_set}
+use Rattle.std.specs.declared.cmp.Ord as Ord
+use Rattle.std.specs.declared.cmp.PartialEq as PartialEq
+use Rattle.std.specs.declared.cmp.PartialOrd as PartialOrd
 use Rattle.queue.specs.declared.queue.Queue.{Queue}
 use Rattle.queue.specs.Orders.{InOrder, Heaped, Least, NotAfter}
 use Rattle.queue.specs.Queues.{entries, Taken, Sorted, Empty}
@@ -16,53 +19,53 @@ in_order_push : {X : Type 0} (L : X → X → Type 0) (done : List X) (x : X) �
 in_order_push L [] x o h = (tt, tt)
 in_order_push L (d ∷ done) x o h = (All-push (L d) done x o.0 h.0, in_order_push L done x o.1 h.1)
 
-module _ {X : Type 0} (R : X → X → Ordering → Type 0) where
+least_perm : {X : Type 0} {R : X → X → Ordering} (o : IsTotalOrder R) (x : X) (a b : List X) → Perm a b → Least o x a → Least o x b
+least_perm o x a b p h = all_perm (NotAfter o x) (λ y. Bool-set _ _) a b p h
+
+module _ {X : Type 0} {ord : Ord.Ghosts X} {equal : PartialEq.Ghosts X} {partial : PartialOrd.Ghosts X} (R : X → X → Ordering) where
   -- done was taken off p, and q is left
-  pub record TakenOff (p : Queue X) (done : List X) (q : Queue X) : Type 0 where
+  pub record TakenOff (p : Queue X ord equal partial) (done : List X) (q : Queue X ord equal partial) : Type 0 where
     -- no entry is lost and none is added
     pub same : Perm (entries p) (done ++ entries q)
     pub room : q.room ≡ p.room
     -- what was taken is in order, and none of it comes after what is left
     pub ordered : (o : IsTotalOrder R) → Heaped o (entries p) → InOrder (NotAfter o) done × All (λ d. Least o d (entries q)) done × Heaped o (entries q)
 
-  pub begun : (p : Queue X) → TakenOff p [] p
+  pub begun : (p : Queue X ord equal partial) → TakenOff p [] p
   begun p = record { same = Perm.refl (entries p); room = refl; ordered = λ o h. (tt, tt, h) }
 
-  least_perm : (o : IsTotalOrder R) (x : X) (a b : List X) → Perm a b → Least o x a → Least o x b
-  least_perm o x a b p h = all_perm (NotAfter o x) (λ y. Bool-set _ _) a b p h
-
-  pub one_more : (p : Queue X) (done : List X) (q : Queue X) (x : X) (s : Queue X) → TakenOff p done q → Taken R q (Some x) s → TakenOff p (done ++ x ∷ []) s
+  pub one_more : (p : Queue X ord equal partial) (done : List X) (q : Queue X ord equal partial) (x : X) (s : Queue X ord equal partial) → TakenOff p done q → Taken R q (Some x) s → TakenOff p (done ++ x ∷ []) s
   one_more p done q x s f t = record {
     same = subst (Perm (entries p)) (sym (append_assoc done (x ∷ []) (entries s))) (Perm.trans f.same (Perm.append_left done t.0));
     room = t.1 ∙ f.room;
     ordered = λ o h.
-        let k = f.ordered h in
+        let k = f.ordered o h in
         let over = All-weaker (λ d. Least o d (entries q)) (λ d. Least o d (x ∷ entries s)) (λ d. least_perm o d (entries q) (x ∷ entries s) t.0) done k.1 in (
           in_order_push (NotAfter o) done x k.0 (All-weaker _ (λ d. NotAfter o d x) (λ d a. a.0) done over),
-          All-push _ done x (All-weaker _ (λ d. Least o d (entries s)) (λ d a. a.1) done over) (least_perm o x (entries q) (x ∷ entries s) t.0 (t.3 k.2)).1,
-          t.2 k.2,
+          All-push _ done x (All-weaker _ (λ d. Least o d (entries s)) (λ d a. a.1) done over) (least_perm o x (entries q) (x ∷ entries s) t.0 (t.3 o k.2)).1,
+          t.2 o k.2,
         );
   }
 
-  pub ended : (p : Queue X) (done : List X) (q s : Queue X) → TakenOff p done q → Taken R q None s → Sorted R p done × Empty R p.room s
+  pub ended : (p : Queue X ord equal partial) (done : List X) (q s : Queue X ord equal partial) → TakenOff p done q → Taken R q None s → Sorted R p done × Empty R p.room s
   ended p done q s f t =
-      ((subst (Perm (entries p)) (ap (λ l. done ++ l) t.0 ∙ append-nil done) f.same, λ o h. (f.ordered h).0), (t.1.0, t.1.1 ∙ f.room, t.1.2))
+      ((subst (Perm (entries p)) (ap (λ l. done ++ l) t.0 ∙ append-nil done) f.same, λ o h. (f.ordered o h).0), (t.1.0, t.1.1 ∙ f.room, t.1.2))
 
   -- the same, with what was taken at the front of a list
-  pub record Placed (p : Queue X) (old : List X) (k : ℕ) (q : Queue X) (new : List X) : Type 0 where
+  pub record Placed (p : Queue X ord equal partial) (old : List X) (k : ℕ) (q : Queue X ord equal partial) (new : List X) : Type 0 where
     pub taken : TakenOff p (take k new) q
     pub behind : drop k new ≡ drop k old
     pub count : k + length (entries q) ≡ length (entries p)
 
-  pub none_placed : (p : Queue X) (old : List X) → Placed p old 0 p old
+  pub none_placed : (p : Queue X ord equal partial) (old : List X) → Placed p old 0 p old
   none_placed p old = record { taken = begun p; behind = refl; count = omega arith }
 
-  module _ (p : Queue X) (old : List X) (k : ℕ) (q : Queue X) (new : List X) (f : Placed p old k q new) where
+  module _ (p : Queue X ord equal partial) (old : List X) (k : ℕ) (q : Queue X ord equal partial) (new : List X) (f : Placed p old k q new) where
     -- one entry is gone from the count of those that are left
-    pub one_less : (x : X) (s : Queue X) → Taken R q (Some x) s → k + 1 + length (entries s) ≡ length (entries p)
+    pub one_less : (x : X) (s : Queue X ord equal partial) → Taken R q (Some x) s → k + 1 + length (entries s) ≡ length (entries p)
     one_less x s t = omega (arith, f.count, length_perm (entries q) (x ∷ entries s) t.0)
 
-    pub one_placed : (x : X) (s : Queue X) → Taken R q (Some x) s → length (entries p) ≤ length new → Placed p old (k + 1) s (set new k x)
+    pub one_placed : (x : X) (s : Queue X ord equal partial) → Taken R q (Some x) s → length (entries p) ≤ length new → Placed p old (k + 1) s (set new k x)
     one_placed x s t enough =
         let less = one_less x s t in
         record {
@@ -71,7 +74,7 @@ module _ {X : Type 0} (R : X → X → Ordering → Type 0) where
           count = less;
         }
 
-    pub all_placed : (s : Queue X) → Taken R q None s → (k ≡ length (entries p)) × Sorted R p (take k new) × (drop k new ≡ drop k old) × Empty R p.room s
+    pub all_placed : (s : Queue X ord equal partial) → Taken R q None s → (k ≡ length (entries p)) × Sorted R p (take k new) × (drop k new ≡ drop k old) × Empty R p.room s
     all_placed s t =
         let e = ended p (take k new) q s f.taken t in
         (omega (arith, f.count, ap length t.0), e.0, f.behind, e.1)

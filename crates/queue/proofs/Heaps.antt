@@ -1,5 +1,5 @@
 -- A heap of entries: its first one, and what std's calls do to it, which has the entries with their order turned round.
-use Rattle.std.proofs.Common.{◌≡◌, ℕ, zero, suc, ◌+◌, ◌*◌, ◌<◌, ◌≤◌, Bool, true, false, List, [], ◌∷◌, map, length, get_or, is_ok, Some, Ok, Err, Result, Ordering, sym, refl, ap, ◌∙◌, subst, ⊎_elim, true≢false, arith, MatchResult}
+use Rattle.std.proofs.Common.{◌≡◌, ℕ, zero, suc, ◌+◌, ◌*◌, ◌<◌, ◌≤◌, Bool, true, false, List, [], ◌∷◌, map, length, get_or, Some, Ok, Err, Result, Ordering, sym, refl, ap, ◌∙◌, subst, ⊎_elim, true≢false, arith, OnOk, IsOk}
 use mathlib.Core.List.Perm
 use mathlib.Core.List.{Perm}
 use lib.ListN.{length-map, get_or-map}
@@ -38,14 +38,14 @@ module _ {X : Type 0} {R : X → X → Ordering} (o : IsTotalOrder R) where
   first_least xs x e h = All-from_get_or (NotAfter o x) xs x (λ k b. subst (λ y. NotAfter o y (get_or xs k x)) (sym e) (climbs xs x h k k (omega arith) b))
 
 -- nothing at all is a heap
-pub none_heaped : {X : Type 0} {R : X → X → Ordering → Type 0} (xs : List X) → xs ≡ [] → (o : IsTotalOrder R) → Heaped o xs
+pub none_heaped : {X : Type 0} {R : X → X → Ordering} (xs : List X) → xs ≡ [] → (o : IsTotalOrder R) → Heaped o xs
 none_heaped xs e o at c = let z : length xs ≡ 0 = ap length e in absurd (omega (arith, c.2))
 
 -- ---- std's heap
 -- what holds of a result that is done
-pub done : {A E : Type 0} (P : Type 0) (Q : E → Type 0) (r : Result A E) → MatchResult r (λ _. P) Q → is_ok r ≡ true → P
-done P Q (Ok x) h e = h
-done P Q (Err x) h e = absurd (true≢false (sym e))
+pub done : {A E : Type 0} (P : Type 0) (r : Result A E) → OnOk r P → IsOk r → P
+done P (Ok x) h e = h
+done P (Err x) h e = absurd (true≢false (sym e))
 
 module _ {X : Type 0} where
   abbrev plain : List (Reverse X) → List X
@@ -62,7 +62,7 @@ module _ {X : Type 0} where
   none_is [] e = refl
   none_is (r ∷ rs) e = absurd (omega arith)
 
-  module _ {R : X → X → Ordering → Type 0} where
+  module _ {R : X → X → Ordering} where
     to_std : (o : IsTotalOrder R) (rs : List (Reverse X)) → Heaped o (plain rs) → std.IsHeap (λ x y. R y.0 x.0) rs
     unfolding std.IsHeap
     to_std o rs h p k d low a b c = simp (at_place rs d.0 k, at_place rs d.0 p) at (h (p, k, d.0) (a, b, simp length-map c))

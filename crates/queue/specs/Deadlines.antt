@@ -3,8 +3,7 @@ use Rattle.std.specs.Prelude.{◌≡◌, ℕ, ◌<◌, ◌≤◌, cond, List, So
 use Rattle.std.specs.List.{AllByRecursion as All}
 use Rattle.queue.specs.contracts.due.DueOrd.TheImpl as due-ord
 use Rattle.queue.specs.declared.due.Due.{Due}
-use Rattle.queue.specs.declared.queue.Queue.{Queue}
-use Rattle.queue.specs.Entries.{DueNoLater}
+use Rattle.queue.specs.Entries.{DueNoLater, DueQueue}
 use Rattle.queue.specs.Queues.{Taken}
 
 -- an entry, if its deadline has come at this minute
@@ -13,8 +12,8 @@ if_due clock None = None
 if_due clock (Some x) = cond (nat_le x.deadline clock) (Some x) None
 
 -- what an entry that is taken leaves; where none is, the queue is as it was
-abbrev pub Left : Queue Due → Option Due → Queue Due → Type 0
-Left p (Some x) q = Taken (λ x' y' r'. r' ≡ (due-ord.ghosts).cmp x' y') p (Some x) q
+abbrev pub Left : DueQueue → Option Due → DueQueue → Type 0
+Left p (Some x) q = Taken (due-ord.ghosts).cmp p (Some x) q
 Left p None q = q ≡ p
 
 -- Some: the first of the entries in order, and its deadline has come. None: no deadline of them has come.

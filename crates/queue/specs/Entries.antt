@@ -1,19 +1,32 @@
 -- The kinds of entries: their orders, which a derived `Ord` has, and what these say in numbers.
 use Rattle.std.specs.Prelude.{◌≡◌, ◌<◌, ◌≤◌, ◌⊎◌}
-use Rattle.std.specs.Cmp.Derive.{on, fields}
-use Rattle.std.specs.Cmp.{IsTotalOrder, nat_cmp_total}
+use Rattle.std.specs.Cmp.{IsTotalOrder}
 use Rattle.queue.specs.contracts.due.DueOrd.TheImpl as due-ord
+use Rattle.queue.specs.contracts.due.DueOrd.TheImpl.Laws as due-laws
 use Rattle.queue.specs.contracts.visit.PlannedVisitOrd.TheImpl as visit-ord
+use Rattle.queue.specs.contracts.visit.PlannedVisitOrd.TheImpl.Laws as visit-laws
+use Rattle.queue.specs.contracts.due.DuePartialEq.TheImpl as due-eq
+use Rattle.queue.specs.contracts.due.DuePartialOrd.TheImpl as due-part
+use Rattle.queue.specs.contracts.visit.PlannedVisitPartialEq.TheImpl as visit-eq
+use Rattle.queue.specs.contracts.visit.PlannedVisitPartialOrd.TheImpl as visit-part
 use Rattle.queue.specs.declared.due.Due.{Due}
+use Rattle.queue.specs.declared.queue.Queue.{Queue}
 use Rattle.queue.specs.declared.visit.PlannedVisit.{PlannedVisit}
 
 -- by deadline, then number
 abbrev pub by_due : IsTotalOrder (due-ord.ghosts).cmp
-by_due = on (λ d. (d.deadline, d.number)) (fields nat_cmp_total nat_cmp_total)
+by_due = due-laws.total-law
 
 -- by minute, then van, then number
 abbrev pub by_visit : IsTotalOrder (visit-ord.ghosts).cmp
-by_visit = on (λ v. (v.minute, (v.van, v.number))) (fields nat_cmp_total (fields nat_cmp_total nat_cmp_total))
+by_visit = visit-laws.total-law
+
+-- the queues of these entries
+abbrev pub DueQueue : Type 0
+DueQueue = Queue Due due-ord.ghosts due-eq.ghosts due-part.ghosts
+
+abbrev pub VisitQueue : Type 0
+VisitQueue = Queue PlannedVisit visit-ord.ghosts visit-eq.ghosts visit-part.ghosts
 
 -- x lapses no later than y
 abbrev pub DueNoLater : Due → Due → Type 0

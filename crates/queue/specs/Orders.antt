@@ -25,5 +25,5 @@ module _ {X : Type 0} {R : X → X → Ordering} (o : IsTotalOrder R) where
   Heaped xs = (at : ℕ × ℕ × X) → (at.0 * 2 + 1 ≤ at.1) × (at.1 ≤ at.0 * 2 + 2) × (at.1 < length xs) → NotAfter (slice_index_or xs at.0 at.2) (slice_index_or xs at.1 at.2)
 
 -- x is a least one of the entries, if they stand as a heap
-abbrev pub FirstOf : {X : Type 0} → (X → X → Ordering → Type 0) → X → List X → Type 0
+abbrev pub FirstOf : {X : Type 0} → (X → X → Ordering) → X → List X → Type 0
 FirstOf R x xs = (o : IsTotalOrder R) → Heaped o xs → Least o x xs

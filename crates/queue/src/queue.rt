@@ -6,7 +6,7 @@ use std::collections::BinaryHeap;
 
 // A queue that gives its least entry first, in memory reserved for as many entries as its room.
 #[derive(Drop)]
-pub struct Queue<T> {
+pub struct Queue<T: Ord> {
     heap: BinaryHeap<Reverse<T>>,
     room: usize,
     ghost within: { heap_len heap ≤ room },

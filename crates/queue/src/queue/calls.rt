@@ -12,7 +12,7 @@ use stops::refusal::Refusal;
 impl<T: Ord> Queue<T> {
     // An empty queue with memory for as many entries as its room.
     pub fn reserve(heap: Global, room: usize) -> Result<Queue<T>, Refusal>
-        ensures { Reserved (λ x' y' r'. r' ≡ T.Ord.cmp x' y') room result }
+        ensures { Reserved T.cmp room result }
     {
         let heap = BinaryHeap::with_capacity(heap, room)?;
         Ok(Queue { heap, room })
@@ -30,7 +30,7 @@ impl<T: Ord> Queue<T> {
     pub fn add(&mut self, entry: T) -> Result<(), Refusal>
     where
         T: Drop,
-        ensures { Added (λ x' y' r'. r' ≡ T.Ord.cmp x' y') entry self.old result self.new }
+        ensures { Added T.cmp entry self.old result self.new }
     {
         if self.len() >= self.room {
             return Err(Refusal::TooShort);
@@ -42,7 +42,7 @@ impl<T: Ord> Queue<T> {
     // The least entry, which stays.
     pub fn peek(&self) -> Option<&T>
         ensures value { option_map (λ x. x.now) result ≡ front self.now }
-        ensures least { IfSome result (λ x. FirstOf (λ x' y' r'. r' ≡ T.Ord.cmp x' y') x.now (entries self.now)) }
+        ensures least { IfSome result (λ x. FirstOf T.cmp x.now (entries self.now)) }
     {
         match self.heap.peek() {
             Some(entry) => Some(&entry.0),
@@ -53,7 +53,7 @@ impl<T: Ord> Queue<T> {
     // Takes the least entry off.
     pub fn take(&mut self) -> Option<T>
         ensures value { result ≡ front self.old }
-        ensures left { Taken (λ x' y' r'. r' ≡ T.Ord.cmp x' y') self.old result self.new }
+        ensures left { Taken T.cmp self.old result self.new }
     {
         match self.heap.pop() {
             Some(entry) => Some(entry.0),
@@ -65,7 +65,7 @@ impl<T: Ord> Queue<T> {
     pub fn drain_into(&mut self, list: &mut [T]) -> Result<usize, Refusal>
     where
         T: Drop,
-        ensures { Drained (λ x' y' r'. r' ≡ T.Ord.cmp x' y') self.old list.old result self.new list.new }
+        ensures { Drained T.cmp self.old list.old result self.new list.new }
     {
         if list.len() < self.len() {
             return Err(Refusal::TooShort);
@@ -82,7 +82,7 @@ impl<T: Ord> Queue<T> {
     pub fn clear(&mut self)
     where
         T: Drop,
-        ensures { Empty (λ x' y' r'. r' ≡ T.Ord.cmp x' y') self.old.room self.new }
+        ensures { Empty T.cmp self.old.room self.new }
     {
         self.heap.clear();
     }
@@ -92,7 +92,7 @@ impl<T: Ord> Queue<T> {
     where
         T: Drop,
         requires { length (entries self.old) < self.old.room }
-        ensures { OneMore (λ x' y' r'. r' ≡ T.Ord.cmp x' y') entry self.old self.new }
+        ensures { OneMore T.cmp entry self.old self.new }
     {
         let _ = self.heap.push(Reverse(entry));
     }

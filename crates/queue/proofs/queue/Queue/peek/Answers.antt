@@ -12,5 +12,5 @@ returns-in-Some g c =
 
 pub returns-in-None : goal.returns-in-None
 returns-in-None g c =
-    let none = none_is (heap_items c.args.self.now.heap) (omega (arith, c.in-None.ensures.cases)) in
+    let none = none_is (heap_items c.args.self.now.heap) (omega (arith, c.in-None.ensures.item.3)) in
     record { value = sym (ap (λ xs. slice_get xs 0) none); least = tt }
