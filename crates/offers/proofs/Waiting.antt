@@ -4,21 +4,21 @@ use mathlib.Core.List.{Perm}
 use Rattle.stops.specs.declared.refusal.Refusal.{Refusal}
 use Rattle.queue.specs.contracts.due.DueOrd.TheImpl as due-ord
 use Rattle.queue.specs.declared.due.Due.{Due}
-use Rattle.queue.specs.declared.queue.Queue.{Queue}
+use Rattle.queue.specs.Entries.{DueQueue}
 use Rattle.queue.specs.Deadlines.{if_due}
 use Rattle.queue.specs.Queues.{entries, front, Added, Taken}
 use Rattle.offers.specs.Agendas.{Skipped}
 
 -- an entry is added where there is room
-pub add_put : (p q : Queue Due) (x : Due) (r : Result (Unit {0}) Refusal) → Added (λ x' y' r'. r' ≡ (due-ord.ghosts).cmp x' y') x p r q → length (entries p) < p.room → Perm (x ∷ entries p) (entries q)
+pub add_put : (p q : DueQueue) (x : Due) (r : Result (Unit {0}) Refusal) → Added (due-ord.ghosts).cmp x p r q → length (entries p) < p.room → Perm (x ∷ entries p) (entries q)
 add_put p q x (Ok u) t h = t.1.0
 add_put p q x (Err e) t h = absurd (omega (arith, t.1))
 
 -- the first entry, whose deadline has come
-pub come_first : (p : Queue Due) (x : Due) (minute : ℕ) → Some x ≡ front p → x.deadline ≤ minute → Some x ≡ if_due minute (front p)
+pub come_first : (p : DueQueue) (x : Due) (minute : ℕ) → Some x ≡ front p → x.deadline ≤ minute → Some x ≡ if_due minute (front p)
 come_first p x minute e le = subst (λ (f : Option Due). Some x ≡ if_due minute f) e (rw (le-leb x.deadline minute le) refl)
 
 -- what is left once the first entry is off
-pub take_skipped : (p q : Queue Due) (r : Option Due) → r ≡ front p → Taken (λ x' y' r'. r' ≡ (due-ord.ghosts).cmp x' y') p r q → Skipped (entries p) (front p) (entries q)
+pub take_skipped : (p q : DueQueue) (r : Option Due) → r ≡ front p → Taken (due-ord.ghosts).cmp p r q → Skipped (entries p) (front p) (entries q)
 take_skipped p q None e t = subst (λ (f : Option Due). Skipped (entries p) f (entries q)) e t.1.0
 take_skipped p q (Some x) e t = subst (λ (f : Option Due). Skipped (entries p) f (entries q)) e t.0

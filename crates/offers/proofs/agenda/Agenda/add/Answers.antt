@@ -4,10 +4,10 @@ use Rattle.queue.proofs.Kept.{added_heaped, added_room}
 use Rattle.offers.proofs.Waiting.{add_put}
 use Rattle.offers.proofs.agenda.Agenda.add.Goals as goal
 
-pub invariant-of-self : goal.invariant-of-self
-invariant-of-self c =
+pub invariant_of-self : goal.invariant_of-self
+invariant_of-self c =
     let a = c.args.self.now in
-    (added_heaped _ a.due c.add.new.self by_due c.args.entry c.add.result c.add.ensures a.heaped, (added_room _ a.due c.add.new.self c.args.entry c.add.result c.add.ensures ∙ a.sized, tt))
+    record { heaped = added_heaped _ a.due c.add.new.self by_due c.args.entry c.add.result c.add.ensures a.heaped; sized = added_room _ a.due c.add.new.self c.args.entry c.add.result c.add.ensures ∙ a.sized }
 
 pub returns : goal.returns
 returns c =

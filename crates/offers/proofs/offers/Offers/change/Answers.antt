@@ -18,25 +18,25 @@ there c =
     let g = given (vec_items o.records) c.args.number c.in-Some.record.state (sym (ap (option_map (λ (r : Record). r.state)) c.in-Some.ensures)) in
     (g.0, omega (arith, g.1, o.records.ok.0))
 
-pub set-state-requires : goal.set-state-requires
-set-state-requires c = (there (goal.at.set-state-requires c).In-Some).1
+pub set_state-requires : goal.set_state-requires
+set_state-requires c = (there (goal.at.set_state-requires c).In-Some).1
 
-pub overflow-cast-result : goal.overflow-cast-result
-overflow-cast-result c = omega (arith, there (goal.at.overflow-cast-result c).In-Some, c.args.self.now.few)
+pub overflow_cast-result : goal.overflow_cast-result
+overflow_cast-result c = omega (arith, there (goal.at.overflow_cast-result c).In-Some, c.args.self.now.few)
 
-pub invariant-of-self : goal.invariant-of-self
-invariant-of-self c =
+pub invariant_of-self : goal.invariant_of-self
+invariant_of-self c =
     let o = c.args.self.now in
     let rs : List Record = vec_items o.records in
-    let rs' : List Record = vec_items c.set-state.new.records in
+    let rs' : List Record = vec_items c.set_state.new.records in
     let xs : List Due = awaited o.agenda in
-    let s = c.in-ok-state.state in
+    let s = c.in_ok-state.state in
     let i = c.args.number - 1 in
-    let closed : is_open (Some s) ≡ false = changed_closed c.args.change o.clock c.in-Some.record.state s c.in-ok-state.ensures in
-    let few : vec_len c.set-state.new.records ≤ number_limit = omega (arith, c.set-state.ensures.len, o.few) in
-    let room : number_limit ≤ vec_capacity c.set-state.new.records = omega (arith, c.set-state.ensures.capacity, o.room) in
-    let short : length xs ≤ vec_len c.set-state.new.records = omega (arith, o.short, c.set-state.ensures.len) in
-    let listed : Listed rs' xs = listed_mark rs rs' i s closed c.set-state.ensures.items xs o.listed in
-    let known : Known rs' xs = known_mark rs rs' i s closed c.set-state.ensures.items xs o.known in
-    let undue : Undue o.clock rs' = undue_mark rs rs' i s closed c.set-state.ensures.items o.clock o.undue in
-    (few, (room, (short, (listed, (known, (undue, tt))))))
+    let closed : is_open (Some s) ≡ false = changed_closed c.args.change o.clock c.in-Some.record.state s c.in_ok-state.ensures in
+    let few : vec_len c.set_state.new.records ≤ number_limit = omega (arith, c.set_state.ensures.len, o.few) in
+    let room : number_limit ≤ vec_capacity c.set_state.new.records = omega (arith, c.set_state.ensures.capacity, o.room) in
+    let short : length xs ≤ vec_len c.set_state.new.records = omega (arith, o.short, c.set_state.ensures.len) in
+    let listed : Listed rs' xs = listed_mark rs rs' i s closed c.set_state.ensures.items xs o.listed in
+    let known : Known rs' xs = known_mark rs rs' i s closed c.set_state.ensures.items xs o.known in
+    let undue : Undue o.clock rs' = undue_mark rs rs' i s closed c.set_state.ensures.items o.clock o.undue in
+    record { few = few; room = room; short = short; listed = listed; known = known; undue = undue }

@@ -8,37 +8,37 @@ use Rattle.calls.specs.Limits.{number_limit}
 use Rattle.offers.specs.Queued.{Undue}
 use Rattle.offers.proofs.Fitting.{in_time, undue_push, listed_push, known_push, listed_open, known_open}
 use Rattle.offers.proofs.offers.Offers.push.Goals as goal
-use Rattle.offers.proofs.offers.Offers.push.Goals.{After-push-reserved}
+use Rattle.offers.proofs.offers.Offers.push.Goals.{After-push_reserved}
 
 -- what holds with the new record, whether it is open or not
-more : (c : After-push-reserved) → (vec_len c.push-reserved.new.self ≤ number_limit) × (number_limit ≤ vec_capacity c.push-reserved.new.self) × Undue c.args.self.now.clock (vec_items c.push-reserved.new.self)
+more : (c : After-push_reserved) → (vec_len c.push_reserved.new.self ≤ number_limit) × (number_limit ≤ vec_capacity c.push_reserved.new.self) × Undue c.args.self.now.clock (vec_items c.push_reserved.new.self)
 more c =
     let o = c.args.self.now in
-    (omega (arith, c.push-reserved.ensures.len, o.records.ok.0, c.requires.room), omega (arith, c.push-reserved.ensures.capacity, o.room), undue_push (vec_items o.records) (vec_items c.push-reserved.new.self) c.args.record c.push-reserved.ensures.items o.clock (in_time o.clock c.args.record.state c.requires.later) o.undue)
+    (omega (arith, c.push_reserved.ensures.len, o.records.ok.0, c.requires.room), omega (arith, c.push_reserved.ensures.capacity, o.room), undue_push (vec_items o.records) (vec_items c.push_reserved.new.self) c.args.record c.push_reserved.ensures.items o.clock (in_time o.clock c.args.record.state c.requires.later) o.undue)
 
-pub invariant-of-self : goal.invariant-of-self
-invariant-of-self c =
+pub invariant_of-self : goal.invariant_of-self
+invariant_of-self c =
     let o = c.args.self.now in
     let rs : List Record = vec_items o.records in
-    let rs' : List Record = vec_items c.push-reserved.new.self in
+    let rs' : List Record = vec_items c.push_reserved.new.self in
     let xs : List Due = awaited o.agenda in
     let ys : List Due = awaited c.add.new.self in
-    let w = c.push-reserved.ensures.items in
+    let w = c.push_reserved.ensures.items in
     let x : Due = record { deadline = c.in-Open.deadline; number = c.args.number } in
     let put : Perm (x ∷ xs) ys = c.add.ensures in
     let long : suc (length xs) ≡ length ys = length_perm (x ∷ xs) ys put in
     let n : c.args.number ≡ suc (length rs) = omega (arith, c.requires.next) in
-    let short : length ys ≤ vec_len c.push-reserved.new.self = omega (arith, long, o.short, c.push-reserved.ensures.len) in
-    let all = more (goal.at.invariant-of-self c).After-push-reserved in
-    (all.0, (all.1, (short, (listed_open rs rs' c.args.record w x xs ys c.in-Open.is n put o.listed, (known_open rs rs' c.args.record w x xs ys c.in-Open.is n put o.known, (all.2, tt))))))
+    let short : length ys ≤ vec_len c.push_reserved.new.self = omega (arith, long, o.short, c.push_reserved.ensures.len) in
+    let all = more (goal.at.invariant_of-self c).After-push_reserved in
+    record { few = all.0; room = all.1; short = short; listed = listed_open rs rs' c.args.record w x xs ys c.in-Open.is n put o.listed; known = known_open rs rs' c.args.record w x xs ys c.in-Open.is n put o.known; undue = all.2 }
 
-pub invariant-of-self-in-default : goal.invariant-of-self-in-default
-invariant-of-self-in-default c =
+pub invariant_of-self-in_default : goal.invariant_of-self-in_default
+invariant_of-self-in_default c =
     let o = c.args.self.now in
     let rs : List Record = vec_items o.records in
-    let rs' : List Record = vec_items c.push-reserved.new.self in
+    let rs' : List Record = vec_items c.push_reserved.new.self in
     let xs : List Due = awaited o.agenda in
-    let w = c.push-reserved.ensures.items in
-    let short : length xs ≤ vec_len c.push-reserved.new.self = omega (arith, o.short, c.push-reserved.ensures.len) in
-    let all = more (goal.at.invariant-of-self-in-default c).After-push-reserved in
-    (all.0, (all.1, (short, (listed_push rs rs' c.args.record w xs (λ e q. c.in-default.not-Open e q) o.listed, (known_push rs rs' c.args.record w xs o.known, (all.2, tt))))))
+    let w = c.push_reserved.ensures.items in
+    let short : length xs ≤ vec_len c.push_reserved.new.self = omega (arith, o.short, c.push_reserved.ensures.len) in
+    let all = more (goal.at.invariant_of-self-in_default c).After-push_reserved in
+    record { few = all.0; room = all.1; short = short; listed = listed_push rs rs' c.args.record w xs (λ e q. c.in_default.not-Open e q) o.listed; known = known_push rs rs' c.args.record w xs o.known; undue = all.2 }
