@@ -8,12 +8,12 @@ use Rattle.batch.proofs.listing.list_section.Goals as goal
 abbrev counts : {X : Type 0} → List ℕ → List X → List ℕ
 counts kind xs = kind ++ (decimal (length xs) ++ 10 ∷ [])
 
-pub returns-in-err-add-line : goal.returns-in-err-add-line
-returns-in-err-add-line g c =
-    let p = err_from_is_err_and c.from-residual.result c.from-residual.ensures.1 in
+pub returns-in_err-add_line : goal.returns-in_err-add_line
+returns-in_err-add_line g c =
+    let p = err_from_is_err_and c.from_residual.result c.from_residual.ensures.1 in
     let first = counts c.args.kind.now c.args.items.now in
-    rw (p.1, p.2) (first_refused first (numbered g.T.Listed.line 0 c.args.items.now) c.args.text.now c.add-line.new.self c.in-err-add-line.field-0.0 (partly first c.args.text.now (Err c.in-err-add-line.field-0.0) c.add-line.new.self c.in-err-add-line.ensures))
+    rw (p.1, p.2) (first_refused first (numbered g.T.Listed.line 0 c.args.items.now) c.args.text.now c.add_line.new.self c.in_err-add_line.field-0.0 (partly first c.args.text.now (Err c.in_err-add_line.field-0.0) c.add_line.new.self c.in_err-add_line.ensures))
 
 pub returns : goal.returns
 returns g c =
-    both_added (counts c.args.kind.now c.args.items.now) (numbered g.T.Listed.line 0 c.args.items.now) c.args.text.now c.add-line.new.self tt c.list-all.result c.list-all.new.text c.in-ok-add-line.ensures c.list-all.ensures
+    both_added (counts c.args.kind.now c.args.items.now) (numbered g.T.Listed.line 0 c.args.items.now) c.args.text.now c.add_line.new.self tt c.list_all.result c.list_all.new.text c.in_ok-add_line.ensures c.list_all.ensures

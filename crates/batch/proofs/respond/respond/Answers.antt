@@ -7,7 +7,7 @@ use Rattle.batch.proofs.respond.respond.Goals as goal
 pub returns : goal.returns
 returns c =
     let input = c.args.input.now in
-    let grown = c.in-ok-compose.ensures in
+    let grown = c.in_ok-compose.ensures in
     let is = grown.1 ∙ ap (λ (t : List ℕ). t ++ response input) c.args.work.blank in
     record {
       written = subst (λ (t : List ℕ). Wrote t c.args.out.now c.write.result c.write.new.out) is c.write.ensures;

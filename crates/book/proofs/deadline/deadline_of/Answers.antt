@@ -4,4 +4,4 @@ use Rattle.book.proofs.deadline.deadline_of.Goals as goal
 
 pub returns : goal.returns
 unfolding deadline
-returns c = record { value = ap (λ h. c.args.minute + h) c.hold-for.ensures.value; later = omega arith }
+returns c = record { value = ap (λ h. c.args.minute + h) c.hold_for.ensures.value; later = omega arith }

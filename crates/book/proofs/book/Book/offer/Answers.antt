@@ -11,15 +11,15 @@ pub returns-in-Ok : goal.returns-in-Ok
 returns-in-Ok g c =
     let f = g.F.Fleet in
     let same = ap (λ (s : Slip). s.number) (sym c.live.ensures) in
-    let d : Does f c.args.self.now (call_at c.args.minute (Offer c.args.request)) (Offered c.live.result.number c.in-Ok.held.until) c.hold-at.new.self =
-    subst (λ n. Does f c.args.self.now (call_at c.args.minute (Offer c.args.request)) (Offered n c.in-Ok.held.until) c.hold-at.new.self) same c.in-Ok.ensures in
+    let d : Does f c.args.self.now (call_at c.args.minute (Offer c.args.request)) (Offered c.live.result.number c.in-Ok.held.until) c.hold_at.new.self =
+    subst (λ n. Does f c.args.self.now (call_at c.args.minute (Offer c.args.request)) (Offered n c.in-Ok.held.until) c.hold_at.new.self) same c.in-Ok.ensures in
     record {
       call = d;
-      passes = carried f g.met.F.Fleet.lawful c.args.self.now c.hold-at.new.self _ _ d;
+      passes = carried f g.met.F.Fleet.lawful c.args.self.now c.hold_at.new.self _ _ d;
       slip = let e = c.live.ensures in cc;
     }
 
 pub returns-in-Err : goal.returns-in-Err
 returns-in-Err g c =
     let d = c.in-Err.ensures in
-    record { call = d; passes = carried g.F.Fleet g.met.F.Fleet.lawful c.args.self.now c.hold-at.new.self _ _ d; slip = c.none.ensures }
+    record { call = d; passes = carried g.F.Fleet g.met.F.Fleet.lawful c.args.self.now c.hold_at.new.self _ _ d; slip = c.none.ensures }
