@@ -1,7 +1,6 @@
 -- No line that is heard has more than 80 bytes.
 use Rattle.std.proofs.Common.{ℕ, ◌^◌, ◌<◌, ◌≤◌, List, [], ◌∷◌, ◌++◌, length, codes, decimal, arith, length-append}
 use lib.Signed.{mag}
-use Rattle.std.specs.Fmt.{signed_decimal}
 use Rattle.std.proofs.lemmas.Fmt.{length-decimal-le, length_signed_le}
 use Rattle.calls.specs.declared.call.Request.{Request}
 use Rattle.stops.specs.declared.class.Class.{Class}

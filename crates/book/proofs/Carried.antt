@@ -1,5 +1,5 @@
 -- What holds of a book for a log passes on over any call.
-use Rattle.std.proofs.Common.{◌≡◌, ◌≤◌, length, vec_items, arith}
+use Rattle.std.proofs.Common.{◌≤◌, length, arith}
 use Rattle.stops.specs.declared.table.SlotTable.{SlotTable}
 use Rattle.stops.specs.Limits.{slot_limit}
 use Rattle.stops.specs.Slots.{slots_of}

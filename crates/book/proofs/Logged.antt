@@ -1,12 +1,11 @@
 -- One call more in a log.
 use Rattle.std.proofs.Common.{◌≡◌, ℕ, ◌+◌, ◌<◌, List, [], ◌∷◌, ◌++◌, length, get_or, take, sym, ap, ◌∙◌, subst}
 use Rattle.std.proofs.lemmas.List.{map-append, take_more}
-use Rattle.stops.specs.declared.slot.Slot.{Slot}
 use Rattle.fleet.specs.declared.interface.Fleet.{Ghosts}
 use Rattle.calls.specs.declared.answer.Answer.{Answer}
 use Rattle.calls.specs.declared.call.Call.{Call}
 use Rattle.calls.specs.declared.entry.Entry.{Entry}
-use Rattle.calls.specs.Answers.{Reply, reply}
+use Rattle.calls.specs.Answers.{reply}
 use Rattle.calls.specs.Theorem.{Theorem}
 use Rattle.calls.specs.Views.{View, call_leaves, call_reply, run_leaves, run_replies}
 use Rattle.calls.proofs.Runs.{leaves_more, replies_more}

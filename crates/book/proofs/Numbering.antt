@@ -1,5 +1,5 @@
 -- Why an offer is refused, check by check.
-use Rattle.std.proofs.Common.{◌≡◌, ℕ, ◌+◌, ◌<◌, ◌≤◌, Bool, true, false, cond, not, ◌||◌, eqb, ltb, leb, List, [], ◌∷◌, ◌++◌, length, is_some, Some, None, Ok, Err, Option, Result, sym, refl, ap, ◌∙◌, arith}
+use Rattle.std.proofs.Common.{◌≡◌, ℕ, ◌≤◌, Bool, true, false, cond, not, ◌||◌, eqb, ltb, leb, List, [], ◌∷◌, length, is_some, Some, None, Ok, Err, Option, Result, sym, refl, ap, ◌∙◌, arith}
 use Rattle.std.specs.List.{slice_get}
 use Rattle.std.proofs.lemmas.Bool.{le-ltb, ne_eqb, or_from}
 use Rattle.stops.specs.declared.place.Place.{Place}
@@ -13,7 +13,6 @@ use Rattle.stops.specs.Stops.{stop_of}
 use Rattle.stops.proofs.Made.{made_some}
 use Rattle.fleet.specs.Meaning.{Meaning, place_answer}
 use Rattle.calls.specs.declared.call.Request.{Request}
-use Rattle.calls.specs.declared.record.Record.{Record}
 use Rattle.calls.specs.Causes.{Code, first, offer_rows, row, stop_rows}
 use Rattle.calls.specs.Histories.{next_number}
 use Rattle.calls.specs.Limits.{number_limit}
@@ -21,7 +20,6 @@ use Rattle.calls.specs.Requests.{stop_for, with_some}
 use Rattle.calls.specs.Views.{View, failed, place_next}
 use Rattle.calls.proofs.Rows.{past}
 use Rattle.calls.proofs.Steps.{wanted_stop}
-use Rattle.offers.specs.Additions.{number_answer}
 use Rattle.book.specs.Requests.{Wanted}
 
 -- ---- the stop of a request

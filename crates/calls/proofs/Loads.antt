@@ -1,5 +1,5 @@
 -- What the records hold, as a load.
-use Rattle.std.proofs.Common.{◌≡◌, ℕ, zero, suc, ◌+◌, ◌<◌, ◌≤◌, Bool, true, false, cond, eqb, List, [], ◌∷◌, ◌++◌, length, Some, sym, refl, ap, ◌∙◌, subst, arith}
+use Rattle.std.proofs.Common.{◌≡◌, ℕ, zero, suc, ◌+◌, ◌<◌, ◌≤◌, true, false, cond, eqb, List, [], ◌∷◌, ◌++◌, length, Some, sym, refl, ap, ◌∙◌, subst, arith}
 use mathlib.Core.List.Permᴰ
 use mathlib.Core.List.{Perm, Mem, mem-cons_self, mem-cons_of_mem, Permᴰ}
 use Rattle.std.proofs.lemmas.Bool.{or_from, or_left, or_right, cond-true, cond-false, eq-eqb, ne_eqb}

@@ -1,13 +1,13 @@
 -- Laws of the records: reading one by its number, changing one state, adding one, letting the due ones lapse.
-use Rattle.std.proofs.Common.{◌≡◌, ℕ, zero, suc, ◌+◌, ◌<◌, Bool, true, false, cond, leb, List, [], ◌∷◌, ◌++◌, length, Some, None, Option, sym, refl, ap, ◌∙◌, subst, arith}
+use Rattle.std.proofs.Common.{◌≡◌, ℕ, zero, suc, ◌+◌, ◌<◌, true, false, cond, leb, List, [], ◌∷◌, length, Some, None, Option, sym, refl, ap, ◌∙◌, arith}
 use Rattle.std.proofs.lemmas.Bool.{cond_both, cond-false, cond-true}
 use Rattle.stops.specs.declared.stop.Stop.{Stop}
 use Rattle.queue.specs.declared.due.Due.{Due}
 use Rattle.calls.specs.declared.record.Record.{Record}
 use Rattle.calls.specs.declared.state.State.{State}
 use Rattle.calls.specs.declared.state.State.TheVariants.{Open, Lapsed, Confirmed, Released, Withdrawn}
-use Rattle.calls.specs.Lapses.{lapsed, lapses, insert, with_due, due_from, due}
-use Rattle.calls.specs.Records.{mark, mark_of, state_at, state_of, is_open, is_confirmed}
+use Rattle.calls.specs.Lapses.{lapsed, lapses, insert, with_due, due_from}
+use Rattle.calls.specs.Records.{mark, state_at, is_open, is_confirmed}
 
 pub placed_at : (rs : List Record) (i : ℕ) (s : State) → state_at rs i ≡ Some s → i < length rs
 placed_at [] i s e = let z : ◌≡◌ {A = ℕ} 0 1 = cc in absurd (omega arith)

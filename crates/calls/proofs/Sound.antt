@@ -1,5 +1,5 @@
 -- A fleet stays in step with the history: its load is what the open and confirmed numbers hold.
-use Rattle.std.proofs.Common.{◌≡◌, ℕ, zero, suc, ◌+◌, ◌<◌, true, false, List, [], ◌∷◌, ◌++◌, length, Some, None, Ok, Err, sym, refl, ap, ◌∙◌, subst, arith}
+use Rattle.std.proofs.Common.{◌≡◌, ℕ, zero, suc, ◌+◌, true, false, List, [], ◌∷◌, ◌++◌, length, Some, None, Ok, Err, sym, refl, ap, ◌∙◌, subst, arith}
 use mathlib.Core.List.Perm
 use mathlib.Core.List.{Perm}
 use Rattle.std.proofs.lemmas.Bool.{cond-true}

@@ -1,5 +1,5 @@
 -- What a call is defined to answer and to leave is what the relation over histories and standings asks, where the fleet is in step.
-use Rattle.std.proofs.Common.{◌≡◌, ℕ, ◌<◌, ◌≤◌, Bool, true, false, cond, not, eqb, ltb, leb, List, [], ◌∷◌, ◌++◌, length, is_some, Some, None, Ok, Err, Option, sym, refl, ap, ◌∙◌, subst, ⊎_elim, arith}
+use Rattle.std.proofs.Common.{◌≡◌, ℕ, ◌<◌, ◌≤◌, Bool, true, false, cond, not, eqb, ltb, leb, List, [], ◌∷◌, ◌++◌, length, is_some, Some, None, Err, Option, sym, refl, ap, ◌∙◌, ⊎_elim, arith}
 use Rattle.std.specs.List.{slice_get}
 use Rattle.std.proofs.lemmas.Option.{slice_get_past as nth_past}
 use Rattle.std.proofs.lemmas.Bool.{cases_lt, eqb-false, ltb-false, or_parts}
@@ -12,17 +12,16 @@ use Rattle.stops.specs.Stops.{stop_of}
 use Rattle.stops.proofs.Made.{stop_made}
 use Rattle.fleet.specs.Loads.{held}
 use Rattle.fleet.specs.Laws.{Laws}
-use Rattle.fleet.specs.Meaning.{Meaning, place_answer, unless_objected}
+use Rattle.fleet.specs.Meaning.{Meaning, unless_objected}
 use Rattle.calls.specs.declared.call.Action.{Action}
 use Rattle.calls.specs.declared.call.Action.TheVariants.{Offer, Book, Confirm, Release, Withdraw, Tick}
 use Rattle.calls.specs.declared.call.Call.{Call}
 use Rattle.calls.specs.declared.call.Request.{Request}
-use Rattle.calls.specs.declared.record.Record.{Record}
 use Rattle.calls.specs.declared.state.State.{State}
-use Rattle.calls.specs.declared.state.State.TheVariants.{Open, Confirmed, Released, Withdrawn}
+use Rattle.calls.specs.declared.state.State.TheVariants.{Open, Confirmed}
 use Rattle.calls.specs.Answers.{Reply, refusal}
 use Rattle.calls.specs.Causes.{Code, action_rows, first, no_room, offer_rows, row, stop_rows, time_rows}
-use Rattle.calls.specs.Histories.{History, acted, added, next_number, passed}
+use Rattle.calls.specs.Histories.{History, acted, added, next_number}
 use Rattle.calls.specs.Limits.{number_limit}
 use Rattle.calls.specs.Records.{holding, state_of}
 use Rattle.calls.specs.Requests.{stop_for, with_some}

@@ -14,8 +14,7 @@ use Rattle.calls.specs.declared.state.State.{State}
 use Rattle.calls.specs.declared.state.State.TheVariants.{Open, Confirmed, Released, Lapsed, Withdrawn}
 use Rattle.calls.specs.Answers.{Reply, refusal}
 use Rattle.calls.specs.Causes.{Code, action_rows, first, no_room, offer_rows, row, time_rows}
-use Rattle.calls.specs.Deadlines.{deadline}
-use Rattle.calls.specs.Histories.{History, acted, added, marked, next_number, passed, untimely}
+use Rattle.calls.specs.Histories.{History, acted, added, next_number, passed, untimely}
 use Rattle.calls.specs.Lapses.{lapsed, lapses}
 use Rattle.calls.specs.Records.{holding, is_confirmed, is_open, mark, mark_of, record_at, record_of, state_at, state_of}
 use Rattle.calls.specs.Requests.{stop_for, with_some}

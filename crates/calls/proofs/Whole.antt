@@ -1,10 +1,9 @@
 -- The whole theorem, from how the run goes; for an opened book, and from call to call.
 use Rattle.std.proofs.Common.{◌≡◌, ℕ, zero, suc, ◌+◌, ◌≤◌, true, false, List, [], ◌∷◌, ◌++◌, length, Some, sym, refl, ap, ◌∙◌, subst, append_assoc, append-nil, arith}
 use mathlib.Core.List.Perm
-use mathlib.Core.List.{Perm}
 use Rattle.stops.specs.declared.slot.Slot.{Slot}
 use Rattle.stops.specs.Limits.{slot_limit}
-use Rattle.fleet.specs.Laws.{Laws, Reached, Within}
+use Rattle.fleet.specs.Laws.{Laws, Within}
 use Rattle.fleet.specs.Meaning.{Meaning}
 use Rattle.calls.specs.declared.answer.Answer.{Answer}
 use Rattle.calls.specs.declared.call.Call.{Call}
@@ -14,7 +13,7 @@ use Rattle.calls.specs.declared.state.State.{State}
 use Rattle.calls.specs.declared.state.State.TheVariants.{Open, Confirmed, Released, Lapsed, Withdrawn}
 use Rattle.calls.specs.Answers.{Reply, reply}
 use Rattle.calls.specs.Histories.{History, begun, history, onward, told}
-use Rattle.calls.specs.Records.{held_from, holding, is_confirmed, record_of}
+use Rattle.calls.specs.Records.{holding, is_confirmed, record_of}
 use Rattle.calls.specs.Steps.{Answered, Follows}
 use Rattle.calls.specs.Theorem.{Theorem, counting, number_in, numbers_in}
 use Rattle.calls.specs.Views.{View, call_leaves, call_reply, opened}

@@ -1,5 +1,5 @@
 -- Why a call is refused: rows of a number, its values and a condition, in the order in which they are looked at.
-use Rattle.std.specs.Prelude.{ℕ, Bool, true, false, cond, not, ◌||◌, List, [], ◌∷◌, ◌++◌, length, is_some, Some, None, Option, ◌==◌, nat_le, nat_lt}
+use Rattle.std.specs.Prelude.{ℕ, Bool, cond, not, ◌||◌, List, [], ◌∷◌, ◌++◌, length, is_some, Some, None, Option, ◌==◌, nat_le, nat_lt}
 use Rattle.stops.specs.declared.slot.Slot.{Slot}
 use Rattle.std.specs.List.{slice_get}
 use Rattle.stops.specs.declared.stop.Stop.{Stop}

@@ -1,5 +1,5 @@
 -- The history of a book: what the slot table and a log of calls and answers tell of each number, with nothing of the book or its fleet.
-use Rattle.std.specs.Prelude.{ℕ, ◌+◌, Bool, true, false, cond, ◌||◌, List, [], ◌∷◌, ◌++◌, length, Some, None, Option, ◌==◌}
+use Rattle.std.specs.Prelude.{ℕ, ◌+◌, Bool, false, cond, ◌||◌, List, [], ◌∷◌, ◌++◌, length, Some, None, Option, ◌==◌}
 use Rattle.stops.specs.declared.slot.Slot.{Slot}
 use Rattle.stops.specs.declared.stop.Stop.{Stop}
 use Rattle.calls.specs.declared.call.Action.{Action}

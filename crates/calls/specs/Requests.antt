@@ -1,5 +1,5 @@
 -- The stop that an offer asks for.
-use Rattle.std.specs.Prelude.{ℕ, List, Some, None, Option}
+use Rattle.std.specs.Prelude.{List, Some, None, Option}
 use Rattle.stops.specs.declared.slot.Slot.{Slot}
 use Rattle.std.specs.List.{slice_get}
 use Rattle.stops.specs.declared.stop.Stop.{Stop}

@@ -1,5 +1,5 @@
 -- A place that is undone by a remove, on any lawful fleet.
-use Rattle.std.proofs.Common.{◌≡◌, ℕ, true, false, eqb, List, [], ◌∷◌, None, Ok, Err, Result, sym, refl, ap, ◌∙◌, subst}
+use Rattle.std.proofs.Common.{◌≡◌, ℕ, false, eqb, List, ◌∷◌, None, Ok, Err, Result, sym, refl, ap, ◌∙◌, subst}
 use mathlib.Core.List.Perm
 use mathlib.Core.List.{Perm}
 use Rattle.std.proofs.lemmas.Bool.{cond-true, eq-eqb}

@@ -1,5 +1,5 @@
 -- A call that is written as a line is read back.
-use Rattle.std.proofs.Common.{◌≡◌, ℕ, ◌<◌, ◌≤◌, cond, List, [], ◌∷◌, ◌++◌, length, ℤ, Some, Ok, Err, codes, decimal, Option, Result, sym, refl, ap, ◌∙◌, arith, length-append, le-ltb}
+use Rattle.std.proofs.Common.{◌≡◌, ℕ, ◌≤◌, cond, List, [], ◌∷◌, length, ℤ, Some, Ok, Err, decimal, Option, Result, refl, ap, ◌∙◌, arith, length-append, le-ltb}
 use Rattle.std.specs.Fmt.{signed_decimal}
 use Rattle.std.specs.List.{AllByRecursion as All}
 use Rattle.std.proofs.lemmas.Fmt.{length-decimal-le, length_signed_le}
@@ -16,7 +16,7 @@ use Rattle.text.specs.Numbers.{plain}
 use Rattle.text.specs.Parts.{fields}
 use Rattle.text.specs.Spaced.{Bare, spaced}
 use Rattle.text.proofs.Back.{bare_decimal, bare_signed, fields_spaced, plain_decimal, signed_back}
-use Rattle.commands.specs.Calls.{Few, FewZ, Plain, action_of, asked, call_of, call_text, command, named, request_of}
+use Rattle.commands.specs.Calls.{Few, FewZ, Plain, asked, call_of, call_text, command, named, request_of}
 use Rattle.commands.specs.Limits.{line_bytes}
 use Rattle.commands.specs.Values.{class_of, letter_of, valued}
 use Rattle.commands.specs.Verbs.{verb_of}

@@ -1,6 +1,5 @@
 -- A line written from an entry is read as that entry.
-use Rattle.std.proofs.Common.{◌≡◌, ℕ, ◌<◌, ◌≤◌, true, false, List, [], ◌∷◌, ◌++◌, length, get_or, Some, Ok, codes, decimal, Option, Result, sym, refl, ap, ◌∙◌, arith, length-append}
-use Rattle.std.specs.List.{AllByRecursion as All}
+use Rattle.std.proofs.Common.{◌≡◌, ℕ, ◌<◌, ◌≤◌, true, false, List, [], ◌∷◌, length, Some, Ok, codes, decimal, Option, Result, ap, ◌∙◌, arith, length-append}
 use Rattle.std.proofs.lemmas.Fmt.{length-decimal-le}
 use Rattle.layers.specs.declared.share.Share.{Share}
 use Rattle.layers.specs.declared.weight.WeightLimit.{WeightLimit}

@@ -1,5 +1,5 @@
 -- What the answers of a fleet's calls say of its standing and its load, for code over any fleet.
-use Rattle.std.proofs.Common.{◌≡◌, ℕ, ◌+◌, ◌<◌, Bool, true, false, cond, List, [], ◌∷◌, Some, None, Ok, Err, Option, Result, sym, refl, ap, ◌∙◌, subst, arith, MatchResult}
+use Rattle.std.proofs.Common.{◌≡◌, ℕ, Bool, true, false, cond, List, [], ◌∷◌, Some, None, Ok, Err, Option, Result, sym, refl, ap, ◌∙◌, subst, arith, MatchResult}
 use mathlib.Core.List.Perm
 use mathlib.Core.List.{Perm}
 use Rattle.std.proofs.lemmas.Bool.{cond-true, eq-eqb}

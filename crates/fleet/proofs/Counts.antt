@@ -5,7 +5,6 @@ use Rattle.std.proofs.lemmas.List.{take_more, map-append, take_all}
 use Rattle.std.proofs.lemmas.List.Sums.{sum_by-cons, sum_by_push}
 use Rattle.std.proofs.lemmas.Bool.{cond-true, cond-false, eq-eqb, ne_eqb}
 use Rattle.std.proofs.lemmas.Bool.Decides.{nat_tests}
-use Rattle.stops.specs.declared.class.Class.{Class}
 use Rattle.stops.specs.declared.class.Class.TheVariants.{Private, Trade}
 use Rattle.stops.specs.declared.stop.Stop.{Stop}
 use Rattle.stops.specs.Limits.{last_slot, unit_limit}

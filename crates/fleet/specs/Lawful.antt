@@ -1,5 +1,5 @@
 -- The laws of a fleet, from the few that each kind shows for itself.
-use Rattle.std.specs.Prelude.{◌≡◌, ℕ, ◌+◌, ◌≤◌, true, false, cond, List, [], ◌∷◌, None}
+use Rattle.std.specs.Prelude.{◌≡◌, ℕ, ◌≤◌, true, false, List, [], ◌∷◌, None}
 use mathlib.Core.List.Perm
 use mathlib.Core.List.{Perm, Mem}
 use Rattle.std.proofs.Common.{arith}

@@ -1,5 +1,5 @@
 -- Lists in another order: sums, lengths and images.
-use Rattle.std.specs.Prelude.{◌≡◌, ℕ, suc, ◌+◌, List, ◌∷◌, map, length, sum_by, refl}
+use Rattle.std.specs.Prelude.{◌≡◌, ℕ, suc, List, ◌∷◌, map, length, sum_by, refl}
 use mathlib.Core.List.{Perm, Permᴰ}
 use Rattle.std.proofs.Math.Logic.{∥∥₁_elim, ∥∥₁_map}
 use Rattle.std.proofs.Common.{ap, ◌∙◌, arith}

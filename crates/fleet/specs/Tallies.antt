@@ -1,6 +1,5 @@
 -- The counts of one slot.
 use Rattle.std.specs.Prelude.{ℕ, cond, List, sum_by, ◌==◌}
-use Rattle.stops.specs.declared.class.Class.{Class}
 use Rattle.stops.specs.declared.class.Class.TheVariants.{Private, Trade}
 use Rattle.stops.specs.declared.stop.Stop.{Stop}
 use Rattle.fleet.specs.declared.tally.Tally.{Tally}

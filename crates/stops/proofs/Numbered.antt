@@ -1,5 +1,5 @@
 -- A refusal is fixed by its number and values.
-use Rattle.std.proofs.Common.{◌≡◌, ℕ, zero, suc, List, [], ◌∷◌, get_or, Ok, Err, Result, sym, refl, ap, ◌∙◌, arith}
+use Rattle.std.proofs.Common.{◌≡◌, ℕ, List, [], ◌∷◌, get_or, Ok, Err, Result, sym, refl, ap, ◌∙◌, arith}
 use Rattle.stops.specs.declared.refusal.Refusal.{Refusal}
 use Rattle.stops.specs.declared.refusal.Refusal.TheVariants.{ClockPassed, MinuteTooLate, OffTheGrid, UnitsOutOfRange, UnknownSlot, NumbersExhausted, NoRoom, UnknownNumber, NotOpen, NotConfirmed, UnknownCommand, FieldCount, BadField, TooLong, MissingLine, TooManyLines, OutOfRange, TooShort, NumberHeld, NumberNotHeld, NoMemory}
 use Rattle.stops.specs.Refusals.{refused, coded}

@@ -1,5 +1,5 @@
 -- What one figure more does to a text that a writer has put at the front of a buffer.
-use Rattle.std.proofs.Common.{◌≡◌, ℕ, suc, ◌+◌, ◌-◌, ◌/◌, ◌%◌, ◌^◌, ◌<◌, ◌≤◌, List, [], ◌∷◌, ◌++◌, length, get_or, take, drop, set, Ok, Err, decimal, sym, refl, ap, ◌∙◌, subst, append_assoc, add-one, arith, length-append, take-append-drop, length-take-le, drop-cons, take_at}
+use Rattle.std.proofs.Common.{◌≡◌, ℕ, suc, ◌+◌, ◌/◌, ◌%◌, ◌^◌, ◌<◌, ◌≤◌, List, [], ◌∷◌, ◌++◌, length, get_or, take, drop, set, Ok, Err, decimal, sym, refl, ap, ◌∙◌, append_assoc, add-one, arith, length-append, take-append-drop, length-take-le, drop-cons, take_at}
 use lib.Seq.{drop-append-le, set_at}
 use borrow.Rule.Slice.PartMut.{put_mid, post_of}
 use Rattle.std.proofs.lemmas.Fmt.{decimal_digit, decimal_step}

@@ -1,5 +1,5 @@
 -- Dealing stops into rounds.
-use Rattle.std.specs.Prelude.{◌≡◌, ℕ, zero, suc, ◌+◌, ◌<◌, ◌⊎◌, List, [], ◌∷◌, ◌++◌, length, take, drop, slice_index_or, slice_set, refl}
+use Rattle.std.specs.Prelude.{◌≡◌, ℕ, zero, suc, ◌<◌, List, [], ◌∷◌, ◌++◌, length, take, drop, slice_index_or, slice_set, refl}
 use mathlib.Core.List.Memᴰ
 use mathlib.Core.List.Perm
 use mathlib.Core.List.{Perm, perm_middle, Memᴰ, mem-cons_self}

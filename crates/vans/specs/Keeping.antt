@@ -1,5 +1,5 @@
 -- What place and remove keep: lawful rounds, and the load but for one stop.
-use Rattle.std.specs.Prelude.{◌≡◌, ℕ, zero, suc, ◌+◌, ◌<◌, Bool, true, false, cond, ◌||◌, List, [], ◌∷◌, ◌++◌, length, Some, None, Decides, Option, ◌==◌, ◌≢◌, refl}
+use Rattle.std.specs.Prelude.{◌≡◌, ℕ, zero, suc, ◌<◌, Bool, true, false, cond, ◌||◌, List, [], ◌∷◌, ◌++◌, length, Some, None, Decides, Option, ◌==◌, ◌≢◌, refl}
 use mathlib.Core.List.Memᴰ
 use mathlib.Core.List.Perm
 use mathlib.Core.List.{Perm, Memᴰ, mem-cons_self}

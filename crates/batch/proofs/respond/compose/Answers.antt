@@ -1,4 +1,4 @@
-use Rattle.std.proofs.Common.{◌≡◌, ℕ, List, length, vec_items, sym, ap, ◌∙◌, subst, arith}
+use Rattle.std.proofs.Common.{ℕ, List, vec_items, sym, ap, ◌∙◌, subst, arith}
 use Rattle.text.specs.Parts.{lines}
 use Rattle.commands.specs.declared.setup.entry.SlotEntry.{SlotEntry}
 use Rattle.vans.specs.declared.van.Van.{Van}

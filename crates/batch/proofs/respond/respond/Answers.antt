@@ -1,4 +1,4 @@
-use Rattle.std.proofs.Common.{ℕ, List, ◌++◌, length, sym, ap, ◌∙◌, subst, arith}
+use Rattle.std.proofs.Common.{ℕ, List, ◌++◌, length, ap, ◌∙◌, subst, arith}
 use Rattle.text.specs.Written.{Wrote}
 use Rattle.batch.specs.Response.{response}
 use Rattle.batch.proofs.Responses.{read_back}

@@ -1,4 +1,4 @@
-use Rattle.std.proofs.Common.{length, drop, ap, arith}
+use Rattle.std.proofs.Common.{length, ap, arith}
 use Rattle.std.proofs.lemmas.List.{drop_all}
 use Rattle.text.specs.Parts.{fields}
 use Rattle.text.proofs.Parted.{past_space, past_other}

@@ -1,4 +1,4 @@
-use Rattle.std.proofs.Common.{◌-◌, length, get_or, drop, sym, ap, ◌∙◌, arith, length-drop, eq-eqb}
+use Rattle.std.proofs.Common.{◌-◌, length, get_or, drop, ap, ◌∙◌, arith, length-drop, eq-eqb}
 use Rattle.std.proofs.lemmas.List.{take_all}
 use Rattle.text.specs.Numbers.{negative}
 use Rattle.text.proofs.numbers.signed_number.Goals as goal

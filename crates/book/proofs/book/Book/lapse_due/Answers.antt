@@ -1,4 +1,4 @@
-use Rattle.std.proofs.Common.{◌≡◌, sym, refl, ap, ◌∙◌}
+use Rattle.std.proofs.Common.{sym, refl, ap, ◌∙◌}
 use Rattle.calls.specs.Views.{taken_all}
 use Rattle.offers.specs.Tables.{rows}
 use Rattle.book.proofs.Views.{fewer_due, one_off, removed_taken, view_same}

@@ -1,5 +1,4 @@
-use Rattle.std.proofs.Common.{◌≡◌, sym, refl, ap, subst}
-use Rattle.calls.specs.declared.answer.Answer.{Answer}
+use Rattle.std.proofs.Common.{sym, ap, subst}
 use Rattle.calls.specs.declared.answer.Answer.TheVariants.{Offered}
 use Rattle.calls.specs.declared.call.Action.TheVariants.{Offer}
 use Rattle.book.specs.declared.slip.Slip.{Slip}

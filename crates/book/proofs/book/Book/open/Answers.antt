@@ -1,7 +1,6 @@
-use Rattle.std.proofs.Common.{◌≡◌, [], sym, refl, subst}
+use Rattle.std.proofs.Common.{[], sym, refl, subst}
 use Rattle.stops.specs.Slots.{slots_of}
 use Rattle.calls.specs.Theorem.{Theorem}
-use Rattle.calls.specs.Views.{opened}
 use Rattle.calls.proofs.Whole.{whole_opened}
 use Rattle.book.proofs.Views.{view_same}
 use Rattle.book.proofs.book.Book.open.Goals as goal

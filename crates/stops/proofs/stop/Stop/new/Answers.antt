@@ -1,4 +1,4 @@
-use Rattle.std.proofs.Common.{sym, refl, ap}
+use Rattle.std.proofs.Common.{sym, ap}
 use Rattle.stops.specs.Refusals.{unless}
 use Rattle.stops.proofs.Made.{stop_made}
 use Rattle.stops.proofs.stop.Stop.new.Goals as goal

@@ -1,4 +1,4 @@
-use Rattle.std.proofs.Common.{◌≡◌, ℕ, Bool, true, false, List, [], ◌∷◌, ℤ, pos, negsuc, nat_abs, Err, decimal, sym, refl, ap, ◌∙◌, subst, arith, w32, leb-false}
+use Rattle.std.proofs.Common.{◌≡◌, ℕ, true, false, List, [], ◌∷◌, ℤ, pos, negsuc, nat_abs, Err, decimal, sym, refl, ap, ◌∙◌, subst, arith, w32, leb-false}
 use lib.Signed.{le_z}
 use Rattle.std.specs.Fmt.{signed_decimal}
 use Rattle.std.proofs.lemmas.Result.{err_from_is_err_and}
