@@ -1,6 +1,6 @@
 -- What the first row that holds tells of each row.
 use Rattle.std.proofs.Common.{◌≡◌, ℕ, Bool, true, false, not, List, [], ◌∷◌, ◌++◌, Some, None, Option, refl, ap, ◌∙◌, subst, arith}
-use Rattle.std.specs.List.{AllByRecursion as All}
+use Rattle.std.specs.List.{AllByRecursion}
 use Rattle.std.proofs.lemmas.Bool.{not-false}
 use Rattle.calls.specs.Causes.{Code, row, no_room, first}
 use Rattle.calls.specs.Requests.{with_some}
@@ -22,17 +22,17 @@ first_none None rows e = (refl, e)
 first_none (Some k) rows e = let z : ◌≡◌ {A = ℕ} 0 1 = cc in absurd (omega arith)
 
 -- where no row decides, none holds
-pub none_each : (rows : List (Option Code)) → first rows ≡ None → All (λ o. o ≡ None) rows
+pub none_each : (rows : List (Option Code)) → first rows ≡ None → AllByRecursion (λ o. o ≡ None) rows
 none_each [] e = tt
 none_each (o ∷ rows) e = let f = first_none o rows e in (f.0, none_each rows f.1)
 
 -- and where none holds, none decides
-pub each_none : (rows : List (Option Code)) → All (λ o. o ≡ None) rows → first rows ≡ None
+pub each_none : (rows : List (Option Code)) → AllByRecursion (λ o. o ≡ None) rows → first rows ≡ None
 each_none [] h = refl
 each_none (o ∷ rows) h = ap (λ x. first (x ∷ rows)) h.0 ∙ each_none rows h.1
 
 -- what holds of the code of each row holds of the first's
-pub first_each : (P : Code → Type 0) (rows : List (Option Code)) → All (λ o. (k : Code) → o ≡ Some k → P k) rows → (k : Code) → first rows ≡ Some k → P k
+pub first_each : (P : Code → Type 0) (rows : List (Option Code)) → AllByRecursion (λ o. (k : Code) → o ≡ Some k → P k) rows → (k : Code) → first rows ≡ Some k → P k
 first_each P [] h k e = let z : ◌≡◌ {A = ℕ} 0 1 = cc in absurd (omega arith)
 first_each P (None ∷ rows) h k e = first_each P rows h.1 k e
 first_each P (Some j ∷ rows) h k e = h.0 k e

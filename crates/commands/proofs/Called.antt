@@ -1,7 +1,7 @@
 -- A call that is written as a line is read back.
 use Rattle.std.proofs.Common.{◌≡◌, ℕ, ◌≤◌, cond, List, [], ◌∷◌, length, ℤ, Some, Ok, Err, decimal, Option, Result, refl, ap, ◌∙◌, arith, length-append, le-ltb}
 use Rattle.std.specs.Fmt.{signed_decimal}
-use Rattle.std.specs.List.{AllByRecursion as All}
+use Rattle.std.specs.List.{AllByRecursion}
 use Rattle.std.proofs.lemmas.Fmt.{length-decimal-le, length_signed_le}
 use Rattle.calls.specs.declared.call.Action.{Action}
 use Rattle.calls.specs.declared.call.Action.TheVariants.{Offer, Book, Confirm, Release, Withdraw, Tick}
@@ -44,14 +44,14 @@ class_one Private = omega arith
 class_one Trade = omega arith
 
 -- a line of these fields says what they say
-said : (c : ℕ) (gs : List (List ℕ)) → (c ≡ 32 → ⊥) → All Bare gs → length (spaced (c ∷ []) gs) ≤ line_bytes → command (spaced (c ∷ []) gs) ≡ call_of ((c ∷ []) ∷ gs) (verb_of (Some c))
+said : (c : ℕ) (gs : List (List ℕ)) → (c ≡ 32 → ⊥) → AllByRecursion Bare gs → length (spaced (c ∷ []) gs) ≤ line_bytes → command (spaced (c ∷ []) gs) ≡ call_of ((c ∷ []) ∷ gs) (verb_of (Some c))
 said c gs not bares few =
     ap (λ b. cond b (Err (14, [])) (call_of (fields (spaced (c ∷ []) gs)) (verb_of (letter_of (fields (spaced (c ∷ []) gs)))))) (le-ltb line_bytes (length (spaced (c ∷ []) gs)) few)
     ∙ ap (λ fs. call_of fs (verb_of (letter_of fs))) (fields_spaced (c ∷ []) gs (letter_bare c not) bares)
 
 -- ---- what is asked for
 module _ (c m : ℕ) (q : Request) (fm : Few m) (fs : Few q.slot) (fx : FewZ q.x) (fy : FewZ q.y) (fu : Few q.units) where
-  asked_bare : All Bare (asked m q)
+  asked_bare : AllByRecursion Bare (asked m q)
   asked_bare = (bare m fm, (class_bare q.class, (bare q.slot fs, (bare_signed q.x (omega arith), (bare_signed q.y (omega arith), (bare q.units fu, tt))))))
 
   asked_short : length (spaced (c ∷ []) (asked m q)) ≤ line_bytes
@@ -91,7 +91,7 @@ asking c make m q fm h =
 naming : (make : ℕ → Action) (m n : ℕ) → Few m → Few n → timed (plain (decimal m)) (and_then (valued 2 (plain (decimal n))) (λ k. Ok (make k))) ≡ Ok (record { minute = m; action = make n })
 naming make m n fm fn = with_minute m _ (make n) fm (ap (λ (o : Option ℕ). and_then (valued 2 o) (λ k. Ok (make k))) (plain_decimal n fn))
 
-named_bare : (m n : ℕ) → Few m → Few n → All Bare (named m n)
+named_bare : (m n : ℕ) → Few m → Few n → AllByRecursion Bare (named m n)
 named_bare m n fm fn = (bare m fm, (bare n fn, tt))
 
 named_short : (c m n : ℕ) → Few m → Few n → length (spaced (c ∷ []) (named m n)) ≤ line_bytes

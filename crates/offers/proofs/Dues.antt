@@ -1,6 +1,6 @@
 -- The due numbers as a list: what is in it, in which order, and how it joins with that of a later minute.
 use Rattle.std.proofs.Common.{◌≡◌, ℕ, zero, suc, ◌+◌, ◌<◌, ◌≤◌, Bool, true, false, cond, eqb, leb, List, [], ◌∷◌, ◌++◌, Some, sym, refl, ap, ◌∙◌, subst, inl, inr, ⊎_elim, arith}
-use Rattle.std.specs.List.{AllByRecursion as All}
+use Rattle.std.specs.List.{AllByRecursion}
 use Rattle.std.proofs.ByRecursion.{All-weaker}
 use Rattle.std.proofs.lemmas.Bool.{cond-true, cond-false, cond_both, lt-leb, le-leb, leb-true, leb-false, cases_lt, eqb-true, eq-eqb, and_parts, and_from, or_cases, or_left, or_right}
 use Rattle.queue.specs.declared.due.Due.{Due}
@@ -17,9 +17,9 @@ abbrev pub entry : ℕ → ℕ → Due
 entry d n = record { deadline = d; number = n }
 
 -- ---- what is in the list
-pub all_insert : (P : Due → Type 0) (d n : ℕ) (l : List Due) → P (entry d n) → All P l → All P (insert d n l)
+pub all_insert : (P : Due → Type 0) (d n : ℕ) (l : List Due) → P (entry d n) → AllByRecursion P l → AllByRecursion P (insert d n l)
 all_insert P d n [] p h = (p, tt)
-all_insert P d n (x ∷ l) p h = cond_both (leb d x.deadline) (entry d n ∷ (x ∷ l)) (x ∷ insert d n l) (All P) (λ e. (p, h)) (λ e. (h.0, all_insert P d n l p h.1))
+all_insert P d n (x ∷ l) p h = cond_both (leb d x.deadline) (entry d n ∷ (x ∷ l)) (x ∷ insert d n l) (AllByRecursion P) (λ e. (p, h)) (λ e. (h.0, all_insert P d n l p h.1))
 
 with_due_keeps : (P : List Due → Type 0) (c : ℕ) (s : State) (n : ℕ) (l : List Due) → ((d : ℕ) → s ≡ Open d → d ≤ c → P (insert d n l)) → P l → P (with_due c s n l)
 with_due_keeps P c (Open d) n l h p = cond_both (leb d c) (insert d n l) l P (λ e. h d refl (leb-true d c e)) (λ e. p)
@@ -32,12 +32,12 @@ with_due_keeps P c (Withdrawn m) n l h p = p
 abbrev pub Drawn : ℕ → ℕ → List Record → Due → Type 0
 Drawn c k rs x = (i : ℕ) × (x.number ≡ k + i) × (state_at rs i ≡ Some (Open x.deadline)) × (x.deadline ≤ c)
 
-pub all_drawn : (c k : ℕ) (rs : List Record) → All (Drawn c k rs) (due_from c k rs)
+pub all_drawn : (c k : ℕ) (rs : List Record) → AllByRecursion (Drawn c k rs) (due_from c k rs)
 all_drawn c k [] = tt
 all_drawn c k (r ∷ rs) =
     let l : List Due = due_from c (suc k) rs in
-    let h : All (Drawn c k (r ∷ rs)) l = All-weaker (Drawn c (suc k) rs) (Drawn c k (r ∷ rs)) (λ x g. (suc g.0, omega (arith, g.1), g.2, g.3)) l (all_drawn c (suc k) rs) in
-    with_due_keeps (All (Drawn c k (r ∷ rs))) c r.state k l (λ d e le. all_insert (Drawn c k (r ∷ rs)) d k l (0, omega arith, ap Some e, le) h) h
+    let h : AllByRecursion (Drawn c k (r ∷ rs)) l = All-weaker (Drawn c (suc k) rs) (Drawn c k (r ∷ rs)) (λ x g. (suc g.0, omega (arith, g.1), g.2, g.3)) l (all_drawn c (suc k) rs) in
+    with_due_keeps (AllByRecursion (Drawn c k (r ∷ rs))) c r.state k l (λ d e le. all_insert (Drawn c k (r ∷ rs)) d k l (0, omega arith, ap Some e, le) h) h
 
 same_matches : (d n : ℕ) → matches (entry d n) d n ≡ true
 same_matches d n = and_from _ _ (eq-eqb d d refl) (eq-eqb n n refl)
@@ -65,7 +65,7 @@ all_found c k (r ∷ rs) (suc i) d e le =
     let h : queued l d (k + suc i) ≡ true = subst (λ m. queued l d m ≡ true) n (all_found c (suc k) rs i d e le) in
     with_due_keeps (λ y. queued y d (k + suc i) ≡ true) c r.state k l (λ x q w. queued_insert_more x k l d (k + suc i) h) h
 
-queued_is : (P : Due → Type 0) (l : List Due) (d n : ℕ) → All P l → queued l d n ≡ true → (x : Due) × P x × (x.deadline ≡ d) × (x.number ≡ n)
+queued_is : (P : Due → Type 0) (l : List Due) (d n : ℕ) → AllByRecursion P l → queued l d n ≡ true → (x : Due) × P x × (x.deadline ≡ d) × (x.number ≡ n)
 queued_is P [] d n all h = let z : ◌≡◌ {A = ℕ} 0 1 = cc in absurd (omega arith)
 queued_is P (x ∷ l) d n all h = ⊎_elim
     (λ a. let b = and_parts (eqb x.deadline d) (eqb x.number n) a in (x, all.0, eqb-true x.deadline d b.0, eqb-true x.number n b.1))
@@ -90,7 +90,7 @@ sooner_trans x y z (inl a) (inr b) = inl (omega (arith, b.0))
 sooner_trans x y z (inr a) (inl b) = inl (omega (arith, a.0))
 sooner_trans x y z (inr a) (inr b) = inr (omega (arith, a.0, b.0), omega (arith, a.1, b.1))
 
-insert_ordered : (d n : ℕ) (l : List Due) → All (λ x. n < x.number) l → InOrder Sooner l → InOrder Sooner (insert d n l)
+insert_ordered : (d n : ℕ) (l : List Due) → AllByRecursion (λ x. n < x.number) l → InOrder Sooner l → InOrder Sooner (insert d n l)
 insert_ordered d n [] h o = (tt, tt)
 insert_ordered d n (x ∷ l) h o =
     cond_both (leb d x.deadline) (entry d n ∷ (x ∷ l)) (x ∷ insert d n l) (InOrder Sooner)
@@ -107,17 +107,17 @@ due_ordered c k (r ∷ rs) =
     with_due_keeps (InOrder Sooner) c r.state k l (λ d e le. insert_ordered d k l (All-weaker (Drawn c (suc k) rs) (λ x. k < x.number) (λ x g. omega (arith, g.1)) l (all_drawn c (suc k) rs)) o) o
 
 -- ---- an earlier minute first
-pub insert_front : (d k : ℕ) (l : List Due) → All (λ x. d ≤ x.deadline) l → insert d k l ≡ entry d k ∷ l
+pub insert_front : (d k : ℕ) (l : List Due) → AllByRecursion (λ x. d ≤ x.deadline) l → insert d k l ≡ entry d k ∷ l
 insert_front d k [] h = refl
 insert_front d k (x ∷ l) h = cond-true _ _ _ (le-leb d x.deadline h.0)
 
-insert_left : (d k : ℕ) (xs ys : List Due) → All (λ x. d ≤ x.deadline) ys → insert d k xs ++ ys ≡ insert d k (xs ++ ys)
+insert_left : (d k : ℕ) (xs ys : List Due) → AllByRecursion (λ x. d ≤ x.deadline) ys → insert d k xs ++ ys ≡ insert d k (xs ++ ys)
 insert_left d k [] ys h = sym (insert_front d k ys h)
 insert_left d k (x ∷ xs) ys h =
     elim (leb d x.deadline) as (λ t. cond t (entry d k ∷ (x ∷ xs)) (x ∷ insert d k xs) ++ ys ≡ cond t (entry d k ∷ (x ∷ (xs ++ ys))) (x ∷ insert d k (xs ++ ys)))
     [ true ↦ refl | false ↦ ap (λ l. x ∷ l) (insert_left d k xs ys h) ]
 
-insert_right : (d k : ℕ) (xs ys : List Due) → All (λ x. x.deadline < d) xs → xs ++ insert d k ys ≡ insert d k (xs ++ ys)
+insert_right : (d k : ℕ) (xs ys : List Due) → AllByRecursion (λ x. x.deadline < d) xs → xs ++ insert d k ys ≡ insert d k (xs ++ ys)
 insert_right d k [] ys h = refl
 insert_right d k (x ∷ xs) ys h = ap (λ l. x ∷ l) (insert_right d k xs ys h.1) ∙ sym (cond-false _ _ _ (lt-leb d x.deadline h.0))
 
@@ -142,7 +142,7 @@ lapses_undue c (r ∷ rs) (zero, d) e = lapsed_open c d r.state (some_state (lap
 lapses_undue c (r ∷ rs) (suc i, d) e = lapses_undue c rs (i, d) e
 
 module _ (a b : ℕ) (le : a ≤ b) where
-  join_open : (k d : ℕ) (xs ys l : List Due) → xs ++ ys ≡ l → All (λ x. x.deadline ≤ a) xs → All (λ x. a < x.deadline) ys → (t : Bool) → leb d a ≡ t → cond t (insert d k xs) xs ++ with_due b (cond t (Lapsed d) (Open d)) k ys ≡ with_due b (Open d) k l
+  join_open : (k d : ℕ) (xs ys l : List Due) → xs ++ ys ≡ l → AllByRecursion (λ x. x.deadline ≤ a) xs → AllByRecursion (λ x. a < x.deadline) ys → (t : Bool) → leb d a ≡ t → cond t (insert d k xs) xs ++ with_due b (cond t (Lapsed d) (Open d)) k ys ≡ with_due b (Open d) k l
   join_open k d xs ys l e low high true q =
       let h : d ≤ a = leb-true d a q in
       insert_left d k xs ys (All-weaker (λ x. a < x.deadline) (λ x. d ≤ x.deadline) (λ x g. omega arith) ys high) ∙ ap (insert d k) e ∙ sym (cond-true _ _ _ (le-leb d b (omega arith)))
@@ -151,7 +151,7 @@ module _ (a b : ℕ) (le : a ≤ b) where
       elim (leb d b) as (λ t. xs ++ cond t (insert d k ys) ys ≡ cond t (insert d k l) l)
       [ true ↦ insert_right d k xs ys (All-weaker (λ x. x.deadline ≤ a) (λ x. x.deadline < d) (λ x g. omega arith) xs low) ∙ ap (insert d k) e | false ↦ e ]
 
-  join_state : (k : ℕ) (s : State) (xs ys l : List Due) → xs ++ ys ≡ l → All (λ x. x.deadline ≤ a) xs → All (λ x. a < x.deadline) ys → with_due a s k xs ++ with_due b (lapsed a s) k ys ≡ with_due b s k l
+  join_state : (k : ℕ) (s : State) (xs ys l : List Due) → xs ++ ys ≡ l → AllByRecursion (λ x. x.deadline ≤ a) xs → AllByRecursion (λ x. a < x.deadline) ys → with_due a s k xs ++ with_due b (lapsed a s) k ys ≡ with_due b s k l
   join_state k (Open d) xs ys l e low high = join_open k d xs ys l e low high (leb d a) refl
   join_state k (Confirmed m) xs ys l e low high = e
   join_state k (Released m) xs ys l e low high = e

@@ -1,7 +1,7 @@
 -- The first entry of the agenda is that of the first due number, or of a number that is settled.
 use Rattle.std.proofs.Common.{◌≡◌, ℕ, zero, suc, ◌+◌, ◌<◌, ◌≤◌, Bool, true, false, cond, eqb, leb, ◌⊎◌, List, [], ◌∷◌, is_ok, Some, None, Ok, Err, Option, Result, sym, refl, ap, ◌∙◌, subst, inl, inr, ⊎_elim, arith}
 use mathlib.Core.List.{Perm}
-use Rattle.std.specs.List.{AllByRecursion as All}
+use Rattle.std.specs.List.{AllByRecursion}
 use Rattle.std.proofs.ByRecursion.{All-weaker}
 use Rattle.std.proofs.lemmas.Bool.{cond-true, cond-false, lt-leb, le-leb, eqb-true, and_parts, or_cases}
 use Rattle.stops.specs.declared.refusal.Refusal.{Refusal}
@@ -42,7 +42,7 @@ due_least c k [] i d e h least = let z : ◌≡◌ {A = ℕ} 0 1 = cc in absurd 
 due_least c k (r ∷ rs) zero d e h least =
     let s : r.state ≡ Open d = cc in
     let l : List Due = due_from c (suc k) rs in
-    let front : All (λ x. d ≤ x.deadline) l = All-weaker (Drawn c (suc k) rs) (λ x. d ≤ x.deadline) (λ x g. ⊎_elim (λ a. omega arith) (λ b. omega (arith, b.0)) (least (suc g.0) x.deadline g.2)) l (all_drawn c (suc k) rs) in
+    let front : AllByRecursion (λ x. d ≤ x.deadline) l = All-weaker (Drawn c (suc k) rs) (λ x. d ≤ x.deadline) (λ x g. ⊎_elim (λ a. omega arith) (λ b. omega (arith, b.0)) (least (suc g.0) x.deadline g.2)) l (all_drawn c (suc k) rs) in
     let n : k ≡ k + 0 = omega arith in
     ap (λ y. with_due c y k l) s ∙ cond-true _ _ _ (le-leb d c h) ∙ insert_front d k l front ∙ ap (λ (m : ℕ). entry d m ∷ l) n
 due_least c k (r ∷ rs) (suc i) d e h least =
@@ -70,7 +70,7 @@ first_turn c rs x (suc i) w e h least =
     (due_least c 1 rs i d e h s ∙ ap (λ (m : ℕ). entry d m ∷ due c (mark rs i (Lapsed d))) n, lapses_mark c rs i d e h)
 
 -- ---- what the agenda says of the records
-no_later : (x : Due) (xs : List Due) (e n : ℕ) → All (DueNoLater x) xs → queued xs e n ≡ true → (x.deadline < e) ⊎ ((x.deadline ≡ e) × (x.number ≤ n))
+no_later : (x : Due) (xs : List Due) (e n : ℕ) → AllByRecursion (DueNoLater x) xs → queued xs e n ≡ true → (x.deadline < e) ⊎ ((x.deadline ≡ e) × (x.number ≤ n))
 no_later x [] e n all q = let z : ◌≡◌ {A = ℕ} 0 1 = cc in absurd (omega arith)
 no_later x (y ∷ ys) e n all q =
     ⊎_elim
@@ -81,7 +81,7 @@ no_later x (y ∷ ys) e n all q =
     (λ r. no_later x ys e n all.1 r)
     (or_cases (matches y e n) (queued ys e n) q)
 
-after : (c : ℕ) (xs : List Due) (e n : ℕ) → All (λ y. c < y.deadline) xs → queued xs e n ≡ true → c < e
+after : (c : ℕ) (xs : List Due) (e n : ℕ) → AllByRecursion (λ y. c < y.deadline) xs → queued xs e n ≡ true → c < e
 after c [] e n all q = let z : ◌≡◌ {A = ℕ} 0 1 = cc in absurd (omega arith)
 after c (y ∷ ys) e n all q =
     ⊎_elim
@@ -90,10 +90,10 @@ after c (y ∷ ys) e n all q =
     (or_cases (matches y e n) (queued ys e n) q)
 
 -- where no entry is due, no number is
-pub none_undue : (c : ℕ) (rs : List Record) (xs : List Due) → Listed rs xs → All (λ y. c < y.deadline) xs → Undue c rs
+pub none_undue : (c : ℕ) (rs : List Record) (xs : List Due) → Listed rs xs → AllByRecursion (λ y. c < y.deadline) xs → Undue c rs
 none_undue c rs xs listed all at e = after c xs at.1 (suc at.0) all (listed at e)
 
-none_drawn : (c k : ℕ) (rs : List Record) → Undue c rs → (l : List Due) → All (Drawn c k rs) l → l ≡ []
+none_drawn : (c k : ℕ) (rs : List Record) → Undue c rs → (l : List Due) → AllByRecursion (Drawn c k rs) l → l ≡ []
 none_drawn c k rs h [] all = refl
 none_drawn c k rs h (x ∷ l) all = let g = all.0 in absurd (omega (arith, h (g.0, x.deadline) g.2, g.3))
 
@@ -146,7 +146,7 @@ module _ (rs ps : List Record) (x : Due) (clock : ℕ) (known : fits (state_of r
     settled refusal = ⊎_elim (λ a. absurd (stayed r x.number refusal (said ∙ ap (numbered x.number) a.1))) (λ b. w ∙ ap (put rs x.number) b.1) (outcome (state_of rs x.number) x.deadline clock known)
 
     -- it is the first due number, and lapses
-    pub lapsing_some : (c : ℕ) (xs : List Due) → is_ok r ≡ true → Listed rs xs → All (DueNoLater x) xs → x.deadline ≤ c → Lapsing c rs clock (Some x.number) ps clock
+    pub lapsing_some : (c : ℕ) (xs : List Due) → is_ok r ≡ true → Listed rs xs → AllByRecursion (DueNoLater x) xs → x.deadline ≤ c → Lapsing c rs clock (Some x.number) ps clock
     lapsing_some c xs done listed all le = ⊎_elim
         (λ a. let m : ps ≡ mark_of rs x.number (Lapsed x.deadline) = w ∙ ap (put rs x.number) a.1 in
         let t = first_turn c rs x x.number refl a.0 le (λ j e q. no_later x xs e (suc j) all (listed (j, e) q)) in

@@ -4,7 +4,7 @@ use mathlib.Core.Bool.{Bool-set}
 use mathlib.Core.List.Perm
 use mathlib.Core.List.{Perm}
 use Rattle.std.specs.Cmp.{IsTotalOrder}
-use Rattle.std.specs.List.{AllByRecursion as All}
+use Rattle.std.specs.List.{AllByRecursion}
 use Rattle.std.proofs.ByRecursion.{All-push, All-weaker}
 use Rattle.std.proofs.lemmas.List.{take_more_set}
 use Rattle.std.specs.declared.cmp.Ord as Ord
@@ -15,7 +15,7 @@ use Rattle.queue.specs.Orders.{InOrder, Heaped, Least, NotAfter}
 use Rattle.queue.specs.Queues.{entries, Taken, Sorted, Empty}
 use Rattle.queue.proofs.Permuted.{all_perm, length_perm}
 
-in_order_push : {X : Type 0} (L : X → X → Type 0) (done : List X) (x : X) → InOrder L done → All (λ d. L d x) done → InOrder L (done ++ x ∷ [])
+in_order_push : {X : Type 0} (L : X → X → Type 0) (done : List X) (x : X) → InOrder L done → AllByRecursion (λ d. L d x) done → InOrder L (done ++ x ∷ [])
 in_order_push L [] x o h = (tt, tt)
 in_order_push L (d ∷ done) x o h = (All-push (L d) done x o.0 h.0, in_order_push L done x o.1 h.1)
 
@@ -29,7 +29,7 @@ module _ {X : Type 0} {ord : Ord.Ghosts X} {equal : PartialEq.Ghosts X} {partial
     pub same : Perm (entries p) (done ++ entries q)
     pub room : q.room ≡ p.room
     -- what was taken is in order, and none of it comes after what is left
-    pub ordered : (o : IsTotalOrder R) → Heaped o (entries p) → InOrder (NotAfter o) done × All (λ d. Least o d (entries q)) done × Heaped o (entries q)
+    pub ordered : (o : IsTotalOrder R) → Heaped o (entries p) → InOrder (NotAfter o) done × AllByRecursion (λ d. Least o d (entries q)) done × Heaped o (entries q)
 
   pub begun : (p : Queue X ord equal partial) → TakenOff p [] p
   begun p = record { same = Perm.refl (entries p); room = refl; ordered = λ o h. (tt, tt, h) }

@@ -4,7 +4,7 @@ use mathlib.Core.Logic.{∥∥₁_elim}
 use mathlib.Core.List.Permᴰ
 use mathlib.Core.List.{Perm, Permᴰ}
 use native.Mathlib.Nat.{ℕ_set}
-use Rattle.std.specs.List.{swap, AllByRecursion as All}
+use Rattle.std.specs.List.{swap, AllByRecursion}
 use Rattle.std.specs.List.Sorted.{IsPermutation}
 use Rattle.std.proofs.lemmas.List.Sorted.{IsPermutation-keeps}
 
@@ -47,15 +47,15 @@ module _ {X : Type 0} where
 
   -- ---- what holds of each entry, in at most one way
   module _ (P : X → Type 0) (once : (x : X) → IsProp (P x)) where
-    all_once : (xs : List X) → IsProp (All P xs)
+    all_once : (xs : List X) → IsProp (AllByRecursion P xs)
     all_once [] a b = refl
     all_once (x ∷ xs) a b = λ i. (once x a.0 b.0 i, all_once xs a.1 b.1 i)
 
-    all_as : {a b : List X} → Permᴰ a b → All P a → All P b
+    all_as : {a b : List X} → Permᴰ a b → AllByRecursion P a → AllByRecursion P b
     all_as Permᴰ.nil h = h
     all_as (Permᴰ.cons e p) h = (subst P e h.0, all_as p h.1)
     all_as (Permᴰ.swap e f) h = (subst P f h.1.0, (subst P e h.0, h.1.1))
     all_as (Permᴰ.trans p q) h = all_as q (all_as p h)
 
-    pub all_perm : (a b : List X) → Perm a b → All P a → All P b
+    pub all_perm : (a b : List X) → Perm a b → AllByRecursion P a → AllByRecursion P b
     all_perm a b p h = ∥∥₁_elim p (all_once b) (λ d. all_as d h)

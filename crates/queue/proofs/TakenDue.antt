@@ -1,7 +1,7 @@
 -- Taking the first entry off if its deadline has come.
 use Rattle.std.proofs.Common.{◌≡◌, ℕ, ◌<◌, ◌≤◌, List, [], ◌∷◌, Some, None, Option, refl, subst, ⊎_elim, arith, le-leb}
 use borrow.Author.Tests.{lt-leb}
-use Rattle.std.specs.List.{slice_get, AllByRecursion as All}
+use Rattle.std.specs.List.{slice_get, AllByRecursion}
 use Rattle.std.proofs.ByRecursion.{All-weaker}
 use Rattle.queue.specs.contracts.due.DueOrd.TheImpl as due-ord
 use Rattle.queue.specs.declared.due.Due.{Due}
@@ -12,7 +12,7 @@ use Rattle.queue.specs.Queues.{entries, front, Taken}
 use Rattle.queue.proofs.Numbers.{due_read}
 
 -- a least entry is no later than any
-pub due_first : (x : Due) (xs : List Due) → FirstOf (due-ord.ghosts).cmp x xs → Heaped by_due xs → All (DueNoLater x) xs
+pub due_first : (x : Due) (xs : List Due) → FirstOf (due-ord.ghosts).cmp x xs → Heaped by_due xs → AllByRecursion (DueNoLater x) xs
 due_first x xs f h = All-weaker _ (DueNoLater x) (due_read x) xs (f by_due h)
 
 module _ (clock : ℕ) (p : DueQueue) where

@@ -1,6 +1,6 @@
 -- Taking entries off whose deadline has come.
 use Rattle.std.specs.Prelude.{◌≡◌, ℕ, ◌<◌, ◌≤◌, cond, List, Some, None, Option, nat_le}
-use Rattle.std.specs.List.{AllByRecursion as All}
+use Rattle.std.specs.List.{AllByRecursion}
 use Rattle.queue.specs.contracts.due.DueOrd.TheImpl as due-ord
 use Rattle.queue.specs.declared.due.Due.{Due}
 use Rattle.queue.specs.Entries.{DueNoLater, DueQueue}
@@ -18,5 +18,5 @@ Left p None q = q ≡ p
 
 -- Some: the first of the entries in order, and its deadline has come. None: no deadline of them has come.
 abbrev pub FirstDue : ℕ → List Due → Option Due → Type 0
-FirstDue clock xs (Some x) = (x.deadline ≤ clock) × All (DueNoLater x) xs
-FirstDue clock xs None = All (λ y. clock < y.deadline) xs
+FirstDue clock xs (Some x) = (x.deadline ≤ clock) × AllByRecursion (DueNoLater x) xs
+FirstDue clock xs None = AllByRecursion (λ y. clock < y.deadline) xs

@@ -3,12 +3,12 @@ use Rattle.std.specs.Prelude.{◌≡◌, ℕ, ◌+◌, ◌*◌, ◌<◌, ◌≤�
 use Rattle.std.specs.declared.cmp.Ordering.{Ordering}
 use Rattle.std.specs.Cmp.{IsTotalOrder}
 use Rattle.std.specs.Ordering.{is_lt}
-use Rattle.std.specs.List.{AllByRecursion as All}
+use Rattle.std.specs.List.{AllByRecursion}
 
 -- a list in order: each entry stands in this relation to all behind it
 abbrev pub InOrder : {X : Type 0} → (X → X → Type 0) → List X → Type 0
 InOrder L [] = Unit {0}
-InOrder L (x ∷ xs) = All (L x) xs × InOrder L xs
+InOrder L (x ∷ xs) = AllByRecursion (L x) xs × InOrder L xs
 
 module _ {X : Type 0} {R : X → X → Ordering} (o : IsTotalOrder R) where
   -- x does not come after y
@@ -17,7 +17,7 @@ module _ {X : Type 0} {R : X → X → Ordering} (o : IsTotalOrder R) where
 
   -- x is a least one: it comes after none of the entries
   abbrev pub Least : X → List X → Type 0
-  Least x xs = All (NotAfter x) xs
+  Least x xs = AllByRecursion (NotAfter x) xs
 
   -- the entries stand as a heap: none comes before its parent, which for place k is (k - 1) / 2;
   -- `at` is the parent's place, the entry's place, and what is read past the end

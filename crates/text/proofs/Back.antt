@@ -3,7 +3,7 @@ use Rattle.std.proofs.Common.{◌≡◌, ℕ, zero, suc, ◌+◌, ◌-◌, ◌*�
 use lib.Signed.{mag}
 use Rattle.std.specs.Option.{option_map}
 use Rattle.std.specs.Fmt.{signed_decimal}
-use Rattle.std.specs.List.{AllByRecursion as All}
+use Rattle.std.specs.List.{AllByRecursion}
 use Rattle.std.proofs.lemmas.Fmt.{decimal_by_steps, decimal_digit, decimal_nonempty, decimal_is_IsNumeral, first_decimal, length-decimal-le}
 use Rattle.std.proofs.lemmas.List.{take_at, drop_at, drop-drop, get_or_at, get_or_append_left}
 use Rattle.std.proofs.lemmas.Str.Parse.{digit_at}
@@ -90,6 +90,6 @@ module _ (f : List ℕ) (bare : Bare f) where
   fields_last = fields_whole f (length f) (record { within = omega arith; before = bare; found = λ lt. absurd (omega arith) }) refl
 
 -- a line written from its fields has just these fields
-pub fields_spaced : (f : List ℕ) (gs : List (List ℕ)) → Bare f → All Bare gs → fields (spaced f gs) ≡ f ∷ gs
+pub fields_spaced : (f : List ℕ) (gs : List (List ℕ)) → Bare f → AllByRecursion Bare gs → fields (spaced f gs) ≡ f ∷ gs
 fields_spaced f [] b bs = fields_last f b
 fields_spaced f (g ∷ gs) b bs = fields_more f b (spaced g gs) ∙ ap (λ hs. f ∷ hs) (fields_spaced g gs bs.0 bs.1)
