@@ -1,5 +1,4 @@
 ghost use Rattle.std.specs.Prelude.{◌≡◌, ◌<◌, ◌≤◌};
-ghost use Rattle.stops.specs.Slots.{slots_of};
 ghost use Rattle.calls.specs.Deadlines.{hold, deadline};
 ghost use Rattle.calls.specs.Limits.{last_booking_minute};
 
@@ -21,7 +20,7 @@ const fn hold_for(class: Class) -> u32
 // The deadline of an offer that is made at a minute, in a book with this slot table.
 pub(crate) fn deadline_of(table: &SlotTable, minute: u32, class: Class) -> u32
     requires { minute ≤ last_booking_minute }
-    ensures value { result ≡ deadline (slots_of table.now) minute class }
+    ensures value { result ≡ deadline table.now minute class }
     ensures later { minute < result }
 {
     minute + hold_for(class)

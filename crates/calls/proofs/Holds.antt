@@ -3,9 +3,9 @@ use Rattle.std.proofs.Common.{ℕ, ◌<◌, List, arith}
 use Rattle.stops.specs.declared.slot.Slot.{Slot}
 use Rattle.stops.specs.declared.class.Class.{Class}
 use Rattle.stops.specs.declared.class.Class.TheVariants.{Private, Trade}
-use Rattle.calls.specs.Deadlines.{deadline}
+use Rattle.calls.specs.Deadlines.{deadline_from}
 
-pub deadline_later : (table : List Slot) (minute : ℕ) (class : Class) → minute < deadline table minute class
-unfolding deadline
+pub deadline_later : (table : List Slot) (minute : ℕ) (class : Class) → minute < deadline_from table minute class
+unfolding deadline_from
 deadline_later table minute Private = omega arith
 deadline_later table minute Trade = omega arith

@@ -1,9 +1,16 @@
 -- What an answer means in numbers and values, and how it is written.
-use Rattle.std.specs.Prelude.{ℕ, List, ◌++◌, Ok, Err, codes, decimal, Result}
+use Rattle.std.specs.Prelude.{ℕ, List, [], ◌∷◌, ◌++◌, Ok, Err, codes, decimal, Result}
 use Rattle.stops.specs.declared.refusal.Refusal.{Refusal}
 use Rattle.stops.specs.Refusals.{refused, text}
 use Rattle.calls.specs.declared.answer.Answer.{Answer}
 use Rattle.calls.specs.declared.answer.Answer.TheVariants.{Offered, Booked, Done, Refused}
+
+-- the number and the deadline of an offer, the number of a booking, nothing for a call that is done; a refusal by number and values
+abbrev pub answer_code : Answer → Result (List ℕ) (ℕ × List ℕ)
+answer_code (Offered number until) = Ok (number ∷ (until ∷ []))
+answer_code (Booked number) = Ok (number ∷ [])
+answer_code Done = Ok []
+answer_code (Refused e) = Err (refused e)
 
 -- What a call is told: the number and the deadline of an offer, the number of a booking, that it is done, or a refusal by its number and values.
 pub data Reply : Type 0 where

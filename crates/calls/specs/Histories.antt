@@ -9,7 +9,7 @@ use Rattle.calls.specs.declared.record.Record.{Record}
 use Rattle.calls.specs.declared.state.State.{State}
 use Rattle.calls.specs.declared.state.State.TheVariants.{Open, Confirmed, Released, Withdrawn}
 use Rattle.calls.specs.Answers.{Reply, offer, booked, done, refusal, reply}
-use Rattle.calls.specs.Deadlines.{deadline}
+use Rattle.calls.specs.Deadlines.{deadline_from}
 use Rattle.calls.specs.Lapses.{lapses}
 use Rattle.calls.specs.Records.{mark_of}
 use Rattle.calls.specs.Requests.{stop_for}
@@ -69,7 +69,7 @@ untimely (refusal k) = k.0 == 1 || k.0 == 2
 module _ (table : List Slot) where
   -- what the answer to an action tells, once the clock is set and the due numbers have lapsed: a refusal or a tick tells no more
   abbrev pub acted : History → Action → Reply → History
-  acted h (Offer q) a = by_offer a (added h (stop_for table q) (Open (deadline table h.clock q.class))) h
+  acted h (Offer q) a = by_offer a (added h (stop_for table q) (Open (deadline_from table h.clock q.class))) h
   acted h (Book q) a = by_booking a (added h (stop_for table q) (Confirmed h.clock)) h
   acted h (Confirm n) a = by_done a (marked h n (Confirmed h.clock)) h
   acted h (Release n) a = by_done a (marked h n (Released h.clock)) h

@@ -12,7 +12,7 @@ use Rattle.calls.specs.declared.state.State.{State}
 use Rattle.calls.specs.declared.state.State.TheVariants.{Open, Confirmed, Released, Withdrawn}
 use Rattle.calls.specs.Answers.{Reply, offer, booked, done, refusal}
 use Rattle.calls.specs.Causes.{Code, action_rows, first, time_rows}
-use Rattle.calls.specs.Deadlines.{deadline}
+use Rattle.calls.specs.Deadlines.{deadline_from}
 use Rattle.calls.specs.Histories.{next_number}
 use Rattle.calls.specs.Lapses.{due, lapses}
 use Rattle.calls.specs.Records.{mark_of}
@@ -38,7 +38,7 @@ failed (Err k) = Some k
 
 -- the reply to an action that is not refused, in a book with this table, clock and records
 abbrev pub success : List Slot → ℕ → List Record → Action → Reply
-success table clock given (Offer q) = offer (next_number given) (deadline table clock q.class)
+success table clock given (Offer q) = offer (next_number given) (deadline_from table clock q.class)
 success table clock given (Book q) = booked (next_number given)
 success table clock given (Confirm n) = done
 success table clock given (Release n) = done
@@ -74,7 +74,7 @@ module _ {Setup Standing : Type 0} (m : Meaning Setup Standing) where
 
   -- what an action that is not refused leaves
   abbrev pub done_by : View Setup Standing → Action → View Setup Standing
-  done_by b (Offer q) = with_number b (stop_for b.table q) (Open (deadline b.table b.clock q.class))
+  done_by b (Offer q) = with_number b (stop_for b.table q) (Open (deadline_from b.table b.clock q.class))
   done_by b (Book q) = with_number b (stop_for b.table q) (Confirmed b.clock)
   done_by b (Confirm n) = with_state b n (Confirmed b.clock) b.standing
   done_by b (Release n) = with_state b n (Released b.clock) (taken b.setup b.standing n)

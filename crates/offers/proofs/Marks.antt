@@ -1,11 +1,11 @@
 -- Laws of the records: reading one by its number, changing one state, adding one.
-use Rattle.std.proofs.Common.{◌≡◌, ℕ, zero, suc, ◌-◌, ◌<◌, ◌≤◌, true, false, ◌⊎◌, List, [], ◌∷◌, ◌++◌, length, get_or, set, Some, None, Ok, sym, refl, ap, ◌∙◌, subst, inl, inr, ⊎_elim, arith}
+use Rattle.std.proofs.Common.{◌≡◌, ℕ, zero, suc, ◌-◌, ◌<◌, ◌≤◌, true, false, ◌⊎◌, List, [], ◌∷◌, ◌++◌, length, get_or, set, Some, None, Ok, Option, sym, refl, ap, ◌∙◌, subst, inl, inr, ⊎_elim, arith}
 use Rattle.offers.specs.declared.change.Change.{Change}
 use Rattle.offers.specs.declared.change.Change.TheVariants.{Confirm, Release, Withdraw, Lapse}
 use Rattle.calls.specs.declared.record.Record.{Record}
 use Rattle.calls.specs.declared.state.State.{State}
 use Rattle.calls.specs.declared.state.State.TheVariants.{Open, Confirmed, Released, Lapsed, Withdrawn}
-use Rattle.offers.specs.Changes.{changed, from_open, from_confirmed}
+use Rattle.offers.specs.Changes.{answered, asked, changed, from_open, from_confirmed}
 use Rattle.calls.specs.Records.{record_at, record_of, state_at, state_of, mark, is_open}
 
 -- ---- reading
@@ -34,6 +34,15 @@ placed_at (r ∷ rs) (suc i) s e = let k = placed_at rs i s e in omega arith
 pub given : (rs : List Record) (n : ℕ) (s : State) → state_of rs n ≡ Some s → (1 ≤ n) × (n - 1 < length rs)
 given rs zero s e = let z : ◌≡◌ {A = ℕ} 0 1 = cc in absurd (omega arith)
 given rs (suc i) s e = let k = placed_at rs i s e in (omega arith, omega arith)
+
+-- a change that is done was asked of a number that was given
+module _ (rs : List Record) (n : ℕ) (change : Change) (clock : ℕ) where
+  given_by : (o : Option State) → state_of rs n ≡ o → (x : Unit {0}) → Ok x ≡ answered (asked change clock o) → n ≤ length rs
+  given_by None e x d = let z : ◌≡◌ {A = ℕ} 0 1 = cc in absurd (omega arith)
+  given_by (Some s) e x d = let g = given rs n s e in omega (arith, g.1)
+
+  pub asked_given : (x : Unit {0}) → Ok x ≡ answered (asked change clock (state_of rs n)) → n ≤ length rs
+  asked_given x d = given_by (state_of rs n) refl x d
 
 -- ---- one state made another
 pub set_mark : (rs : List Record) (i : ℕ) (x : Record) (s : State) → x ≡ get_or rs i x → i < length rs → set rs i (record { stop = x.stop; state = s }) ≡ mark rs i s

@@ -18,7 +18,7 @@ use Rattle.offers.specs.Agendas.{awaited, next, Skipped}
 use Rattle.calls.specs.Lapses.{lapsed, lapses, insert, with_due, due_from, due}
 use Rattle.offers.specs.Laws.{Lapsing}
 use Rattle.offers.specs.Queued.{matches, queued, fits, Listed, Undue}
-use Rattle.offers.specs.Changes.{asked, numbered, put}
+use Rattle.offers.specs.Changes.{asked, answered, put}
 use Rattle.calls.specs.Records.{state_at, state_of, mark, mark_of}
 use Rattle.offers.proofs.Dues.{entry, Drawn, all_drawn, insert_front}
 use Rattle.offers.proofs.Marks.{open_mark}
@@ -120,13 +120,13 @@ outcome (Some (Released e)) d m h = inr (λ x q. let z : ◌≡◌ {A = ℕ} 0 1
 outcome (Some (Lapsed e)) d m h = inr (λ x q. let z : ◌≡◌ {A = ℕ} 0 1 = cc in omega arith, refl)
 outcome (Some (Withdrawn e)) d m h = inr (λ x q. let z : ◌≡◌ {A = ℕ} 0 1 = cc in omega arith, refl)
 
-went : (r : Result ℕ Refusal) → is_ok r ≡ true → coded r ≡ Err (9, []) → ⊥
+went : (r : Result (Unit {0}) Refusal) → is_ok r ≡ true → coded r ≡ Err (9, []) → ⊥
 went (Ok u) h e = let z : ◌≡◌ {A = ℕ} 0 1 = cc in omega arith
 went (Err x) h e = let z : ◌≡◌ {A = ℕ} 0 1 = cc in omega arith
 
-stayed : (r : Result ℕ Refusal) (n : ℕ) → is_ok r ≡ false → coded r ≡ Ok n → ⊥
-stayed (Ok u) n h e = let z : ◌≡◌ {A = ℕ} 0 1 = cc in omega arith
-stayed (Err x) n h e = let z : ◌≡◌ {A = ℕ} 0 1 = cc in omega arith
+stayed : (r : Result (Unit {0}) Refusal) → is_ok r ≡ false → coded r ≡ Ok tt → ⊥
+stayed (Ok u) h e = let z : ◌≡◌ {A = ℕ} 0 1 = cc in omega arith
+stayed (Err x) h e = let z : ◌≡◌ {A = ℕ} 0 1 = cc in omega arith
 
 marked_closed : (rs : List Record) (n d : ℕ) → (e : ℕ) → state_of (mark_of rs n (Lapsed d)) n ≡ Some (Open e) → ⊥
 marked_closed rs zero d e q = let z : ◌≡◌ {A = ℕ} 0 1 = cc in omega arith
@@ -140,10 +140,10 @@ module _ (rs ps : List Record) (x : Due) (clock : ℕ) (known : fits (state_of r
       (λ b. b.0 e (sym (ap (λ (l : List Record). state_of l x.number) (w ∙ ap (put rs x.number) b.1)) ∙ q))
       (outcome (state_of rs x.number) x.deadline clock known)
 
-  module _ (r : Result ℕ Refusal) (said : coded r ≡ numbered x.number (asked Lapse clock (state_of rs x.number))) where
+  module _ (r : Result (Unit {0}) Refusal) (said : coded r ≡ answered (asked Lapse clock (state_of rs x.number))) where
     -- it was settled, and nothing changes
     pub settled : is_ok r ≡ false → ps ≡ rs
-    settled refusal = ⊎_elim (λ a. absurd (stayed r x.number refusal (said ∙ ap (numbered x.number) a.1))) (λ b. w ∙ ap (put rs x.number) b.1) (outcome (state_of rs x.number) x.deadline clock known)
+    settled refusal = ⊎_elim (λ a. absurd (stayed r refusal (said ∙ ap answered a.1))) (λ b. w ∙ ap (put rs x.number) b.1) (outcome (state_of rs x.number) x.deadline clock known)
 
     -- it is the first due number, and lapses
     pub lapsing_some : (c : ℕ) (xs : List Due) → is_ok r ≡ true → Listed rs xs → AllByRecursion (DueNoLater x) xs → x.deadline ≤ c → Lapsing c rs clock (Some x.number) ps clock
@@ -151,7 +151,7 @@ module _ (rs ps : List Record) (x : Due) (clock : ℕ) (known : fits (state_of r
         (λ a. let m : ps ≡ mark_of rs x.number (Lapsed x.deadline) = w ∙ ap (put rs x.number) a.1 in
         let t = first_turn c rs x x.number refl a.0 le (λ j e q. no_later x xs e (suc j) all (listed (j, e) q)) in
         (x.deadline, t.0 ∙ ap (λ (l : List Record). x ∷ due c l) (sym m), m, ap (lapses c) m ∙ t.1, refl))
-        (λ b. absurd (went r done (said ∙ ap (numbered x.number) b.1)))
+        (λ b. absurd (went r done (said ∙ ap answered b.1)))
         (outcome (state_of rs x.number) x.deadline clock known)
 
 come_by : (y x : Due) (t : Bool) → Some x ≡ cond t (Some y) None → Some y ≡ Some x

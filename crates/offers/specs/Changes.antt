@@ -35,7 +35,12 @@ abbrev pub asked : Change → ℕ → Option State → Result State (ℕ × List
 asked change minute None = Err (8, [])
 asked change minute (Some s) = changed change minute s
 
--- the answer to a change of a number, which is its refusal or the number
+-- the answer to a change, which is its refusal or nothing
+abbrev pub answered : {X E : Type 0} → Result X E → Result (Unit {0}) E
+answered (Ok x) = Ok tt
+answered (Err e) = Err e
+
+-- the answer to a change that gives the number besides
 abbrev pub numbered : {X E : Type 0} → ℕ → Result X E → Result ℕ E
 numbered n (Ok x) = Ok n
 numbered n (Err e) = Err e

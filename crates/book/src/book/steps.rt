@@ -55,7 +55,7 @@ impl<F: Fleet> Book<F> {
         let number = self.offers.next_number()?;
         self.fleet.place(number, &stop)?;
         // there is a number left and the deadline is to come, so this is never refused
-        let _ = self.offers.add(Record { stop, state });
+        let _ = self.offers.give(Record { stop, state });
         Ok(number)
     }
 
@@ -63,7 +63,7 @@ impl<F: Fleet> Book<F> {
     pub(crate) fn let_go(&mut self, number: u32, change: Change) -> Result<(), Refusal>
         ensures { LetGo F.Fleet.meaning (view F.Fleet self.old) change number result (view F.Fleet self.new) }
     {
-        let held = self.offers.change(number, change)?;
+        let held = self.offers.change_given(number, change)?;
         // an open or a confirmed number is held, so this is never refused
         let _ = self.fleet.remove(held);
         Ok(())

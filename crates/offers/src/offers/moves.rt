@@ -1,10 +1,11 @@
-ghost use Rattle.std.specs.Prelude.{◌≡◌, ◌+◌, ◌<◌, ◌≤◌, false, [], ◌∷◌, ◌++◌, length, vec_len, vec_capacity};
+ghost use Rattle.std.specs.Prelude.{◌≡◌, ℕ, ◌+◌, ◌<◌, ◌≤◌, [], ◌∷◌, ◌++◌, length, vec_len, vec_capacity};
 ghost use Rattle.stops.specs.Refusals.{coded};
+ghost use Rattle.calls.specs.declared.state.State.TheVariants.{Open};
 ghost use Rattle.offers.specs.Laws.{LapseLaws, Lapsing};
 ghost use Rattle.calls.specs.Limits.{number_limit};
 ghost use Rattle.calls.specs.Records.{state_of, mark};
 ghost use Rattle.offers.specs.Additions.{overdue, add_answer, added_to};
-ghost use Rattle.offers.specs.Changes.{asked, numbered, put};
+ghost use Rattle.offers.specs.Changes.{answered, asked, numbered, put};
 ghost use Rattle.offers.specs.Tables.{rows};
 
 use crate::change::{Change, state_after};
@@ -54,22 +55,24 @@ impl Offers {
         }
     }
 
-    // Puts a record under the next number; its caller has seen that it may.
-    fn push(&mut self, record: Record, number: u16)
+    // Gives the next number, with this record; its caller has seen that it may.
+    pub(crate) fn add(&mut self, row: Record) -> u16
         requires room { length (rows self.old) < number_limit }
-        requires next { number ≡ length (rows self.old) + 1 }
-        requires later { overdue self.old.clock «record».state ≡ false }
-        ensures records { rows self.new ≡ rows self.old ++ «record» ∷ [] }
+        requires later { (d : ℕ) → row.state ≡ Open d → self.old.clock < d }
+        ensures number { result ≡ length (rows self.old) + 1 }
+        ensures records { rows self.new ≡ rows self.old ++ row ∷ [] }
         ensures time { self.new.clock ≡ self.old.clock }
     {
-        self.records.push_reserved(record);
-        if let State::Open(deadline) = record.state {
+        self.records.push_reserved(row);
+        let number = self.records.len() as u16;
+        if let State::Open(deadline) = row.state {
             self.agenda.add(Due { deadline, number });
         }
+        number
     }
 
     // Gives the next number to a record, unless that is due already.
-    pub fn add(&mut self, record: Record) -> Result<u16, Refusal>
+    pub fn give(&mut self, record: Record) -> Result<u16, Refusal>
         ensures answer { coded result ≡ add_answer (rows self.old) self.old.clock «record» }
         ensures records { rows self.new ≡ added_to (rows self.old) «record» (add_answer (rows self.old) self.old.clock «record») }
         ensures time { self.new.clock ≡ self.old.clock }
@@ -78,13 +81,13 @@ impl Offers {
         if is_overdue(record.state, self.clock) {
             return Err(Refusal::OutOfRange);
         }
-        self.push(record, number);
+        let _ = self.add(record);
         Ok(number)
     }
 
     // Changes the state of a number at the minute of the clock, and no other record.
-    pub fn change(&mut self, number: u32, change: Change) -> Result<u16, Refusal>
-        ensures answer { coded result ≡ numbered number (asked change self.old.clock (state_of (rows self.old) number)) }
+    pub(crate) fn change(&mut self, number: u32, change: Change) -> Result<(), Refusal>
+        ensures answer { coded result ≡ answered (asked change self.old.clock (state_of (rows self.old) number)) }
         ensures records { rows self.new ≡ put (rows self.old) number (asked change self.old.clock (state_of (rows self.old) number)) }
         ensures rest { (self.new.clock ≡ self.old.clock) × (self.new.agenda ≡ self.old.agenda) }
     {
@@ -93,6 +96,16 @@ impl Offers {
         };
         let state = state_after(record.state, change, self.clock)?;
         set_state(&mut self.records, number as usize - 1, state);
+        Ok(())
+    }
+
+    // The same, and gives the number, which is one that was given.
+    pub fn change_given(&mut self, number: u32, change: Change) -> Result<u16, Refusal>
+        ensures answer { coded result ≡ numbered number (asked change self.old.clock (state_of (rows self.old) number)) }
+        ensures records { rows self.new ≡ put (rows self.old) number (asked change self.old.clock (state_of (rows self.old) number)) }
+        ensures rest { (self.new.clock ≡ self.old.clock) × (self.new.agenda ≡ self.old.agenda) }
+    {
+        self.change(number, change)?;
         Ok(number as u16)
     }
 

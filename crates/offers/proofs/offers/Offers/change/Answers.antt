@@ -21,9 +21,6 @@ there c =
 pub set_state-requires : goal.set_state-requires
 set_state-requires c = (there (goal.at.set_state-requires c).In-Some).1
 
-pub overflow_cast-result : goal.overflow_cast-result
-overflow_cast-result c = omega (arith, there (goal.at.overflow_cast-result c).In-Some, c.args.self.now.few)
-
 pub invariant_of-self : goal.invariant_of-self
 invariant_of-self c =
     let o = c.args.self.now in

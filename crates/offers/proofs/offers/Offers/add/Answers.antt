@@ -6,15 +6,15 @@ use Rattle.calls.specs.declared.record.Record.{Record}
 use Rattle.offers.specs.Agendas.{awaited}
 use Rattle.calls.specs.Limits.{number_limit}
 use Rattle.offers.specs.Queued.{Undue}
-use Rattle.offers.proofs.Fitting.{in_time, undue_push, listed_push, known_push, listed_open, known_open}
-use Rattle.offers.proofs.offers.Offers.push.Goals as goal
-use Rattle.offers.proofs.offers.Offers.push.Goals.{After-push_reserved}
+use Rattle.offers.proofs.Fitting.{undue_push, listed_push, known_push, listed_open, known_open}
+use Rattle.offers.proofs.offers.Offers.add.Goals as goal
+use Rattle.offers.proofs.offers.Offers.add.Goals.{After-push_reserved}
 
 -- what holds with the new record, whether it is open or not
 more : (c : After-push_reserved) → (vec_len c.push_reserved.new.self ≤ number_limit) × (number_limit ≤ vec_capacity c.push_reserved.new.self) × Undue c.args.self.now.clock (vec_items c.push_reserved.new.self)
 more c =
     let o = c.args.self.now in
-    (omega (arith, c.push_reserved.ensures.len, o.records.ok.0, c.requires.room), omega (arith, c.push_reserved.ensures.capacity, o.room), undue_push (vec_items o.records) (vec_items c.push_reserved.new.self) c.args.record c.push_reserved.ensures.items o.clock (in_time o.clock c.args.record.state c.requires.later) o.undue)
+    (omega (arith, c.push_reserved.ensures.len, o.records.ok.0, c.requires.room), omega (arith, c.push_reserved.ensures.capacity, o.room), undue_push (vec_items o.records) (vec_items c.push_reserved.new.self) c.args.row c.push_reserved.ensures.items o.clock c.requires.later o.undue)
 
 pub invariant_of-self : goal.invariant_of-self
 invariant_of-self c =
@@ -24,13 +24,13 @@ invariant_of-self c =
     let xs : List Due = awaited o.agenda in
     let ys : List Due = awaited c.add.new.self in
     let w = c.push_reserved.ensures.items in
-    let x : Due = record { deadline = c.in-Open.deadline; number = c.args.number } in
+    let x : Due = record { deadline = c.in-Open.deadline; number = c.len-number.result } in
     let put : Perm (x ∷ xs) ys = c.add.ensures in
     let long : suc (length xs) ≡ length ys = length_perm (x ∷ xs) ys put in
-    let n : c.args.number ≡ suc (length rs) = omega (arith, c.requires.next) in
+    let n : c.len-number.result ≡ suc (length rs) = omega (arith, c.len-number.ensures, c.push_reserved.ensures.len, o.records.ok.0) in
     let short : length ys ≤ vec_len c.push_reserved.new.self = omega (arith, long, o.short, c.push_reserved.ensures.len) in
     let all = more (goal.at.invariant_of-self c).After-push_reserved in
-    record { few = all.0; room = all.1; short = short; listed = listed_open rs rs' c.args.record w x xs ys c.in-Open.is n put o.listed; known = known_open rs rs' c.args.record w x xs ys c.in-Open.is n put o.known; undue = all.2 }
+    record { few = all.0; room = all.1; short = short; listed = listed_open rs rs' c.args.row w x xs ys c.in-Open.is n put o.listed; known = known_open rs rs' c.args.row w x xs ys c.in-Open.is n put o.known; undue = all.2 }
 
 pub invariant_of-self-in_default : goal.invariant_of-self-in_default
 invariant_of-self-in_default c =
@@ -41,4 +41,4 @@ invariant_of-self-in_default c =
     let w = c.push_reserved.ensures.items in
     let short : length xs ≤ vec_len c.push_reserved.new.self = omega (arith, o.short, c.push_reserved.ensures.len) in
     let all = more (goal.at.invariant_of-self-in_default c).After-push_reserved in
-    record { few = all.0; room = all.1; short = short; listed = listed_push rs rs' c.args.record w xs (λ e q. c.in_default.not-Open e q) o.listed; known = known_push rs rs' c.args.record w xs o.known; undue = all.2 }
+    record { few = all.0; room = all.1; short = short; listed = listed_push rs rs' c.args.row w xs (λ e q. c.in_default.not-Open e q) o.listed; known = known_push rs rs' c.args.row w xs o.known; undue = all.2 }
