@@ -1,2 +1,4 @@
 pub mod Stretches
 pub mod Cutting
+pub mod Sorting
+pub mod Listing

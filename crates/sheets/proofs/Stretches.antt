@@ -1,8 +1,8 @@
 -- Rows of the account from one number to another.
-use Rattle.std.proofs.Common.{◌≡◌, ℕ, zero, suc, ◌+◌, ◌-◌, ◌<◌, ◌≤◌, List, [], ◌∷◌, ◌++◌, length, Some, None, Option, sym, refl, ap, ◌∙◌, subst, append_assoc, arith}
+use Rattle.std.proofs.Common.{◌≡◌, ℕ, zero, suc, ◌+◌, ◌-◌, ◌<◌, ◌≤◌, List, [], ◌∷◌, ◌++◌, length, Some, sym, refl, ap, ◌∙◌, append_assoc, arith}
 use Rattle.calls.specs.declared.record.Record.{Record}
 use Rattle.calls.specs.Records.{record_at, record_of}
-use Rattle.sheets.specs.Accounts.{Joins, account, account_names, row, row_if, rows_from, rows_of, stretch}
+use Rattle.sheets.specs.Accounts.{Joins, account_names, row, row_if, rows_from, rows_of, stretch}
 
 -- the first row of a stretch, and the rest
 pub rows_step : (rs : List Record) (n to : ℕ) → n < to → stretch rs n to ≡ row_if n (record_of rs n) ++ stretch rs (n + 1) to

@@ -1,5 +1,5 @@
 -- The plan: a line of names, and the visits of the standing confirmations in order of minute, van and number.
-use Rattle.std.specs.Prelude.{◌≡◌, ℕ, suc, Bool, true, cond, ◌&&◌, ◌||◌, List, [], ◌∷◌, ◌++◌, Some, None, codes, decimal, Option, ◌==◌, nat_le, nat_lt}
+use Rattle.std.specs.Prelude.{ℕ, suc, Bool, cond, ◌&&◌, ◌||◌, List, [], ◌∷◌, ◌++◌, Some, None, codes, decimal, Option, ◌==◌, nat_le, nat_lt}
 use mathlib.Core.List.{Perm}
 use Rattle.std.specs.List.{flat_map}
 use Rattle.fleet.specs.declared.visit.Visit.{Visit}
@@ -7,8 +7,7 @@ use Rattle.queue.specs.declared.visit.PlannedVisit.{PlannedVisit}
 use Rattle.queue.specs.Entries.{VisitNoLater}
 use Rattle.queue.specs.Orders.{InOrder}
 use Rattle.calls.specs.declared.record.Record.{Record}
-use Rattle.calls.specs.declared.state.State.{State}
-use Rattle.calls.specs.Records.{is_confirmed, record_of}
+use Rattle.calls.specs.Records.{is_confirmed}
 
 abbrev pub plan_names : List ℕ
 plan_names = codes "minute,van,number" ++ 10 ∷ []
