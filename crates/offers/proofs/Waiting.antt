@@ -1,5 +1,5 @@
 -- What the calls of a queue of due entries come to.
-use Rattle.std.proofs.Common.{◌≡◌, ℕ, ◌<◌, ◌≤◌, ◌∷◌, length, Some, None, Ok, Err, Option, Result, refl, subst, arith, le-leb}
+use Rattle.std.proofs.Common.{◌≡◌, ℕ, ◌<◌, ◌≤◌, ◌∷◌, length, Some, None, Option, Result, refl, subst, le-leb}
 use mathlib.Core.List.{Perm}
 use Rattle.stops.specs.declared.refusal.Refusal.{Refusal}
 use Rattle.queue.specs.contracts.due.DueOrd.TheImpl as due-ord
@@ -7,12 +7,12 @@ use Rattle.queue.specs.declared.due.Due.{Due}
 use Rattle.queue.specs.Entries.{DueQueue}
 use Rattle.queue.specs.Deadlines.{if_due}
 use Rattle.queue.specs.Queues.{entries, front, Added, Taken}
+use Rattle.queue.proofs.Kept.{added_more}
 use Rattle.offers.specs.Agendas.{Skipped}
 
 -- an entry is added where there is room
 pub add_put : (p q : DueQueue) (x : Due) (r : Result (Unit {0}) Refusal) → Added (due-ord.ghosts).cmp x p r q → length (entries p) < p.room → Perm (x ∷ entries p) (entries q)
-add_put p q x (Ok u) t h = t.1.0
-add_put p q x (Err e) t h = absurd (omega (arith, t.1))
+add_put p q x r t h = added_more (due-ord.ghosts).cmp p q x r t h
 
 -- the first entry, whose deadline has come
 pub come_first : (p : DueQueue) (x : Due) (minute : ℕ) → Some x ≡ front p → x.deadline ≤ minute → Some x ≡ if_due minute (front p)

@@ -1,5 +1,6 @@
 -- What stays through a call, whatever it answers: the entries stand as a heap, and the room.
-use Rattle.std.proofs.Common.{◌≡◌, Some, None, Ok, Err, Option, Result, Ordering, sym, ap, subst}
+use Rattle.std.proofs.Common.{◌≡◌, ◌<◌, ◌∷◌, length, Some, None, Ok, Err, Option, Result, Ordering, sym, ap, subst, arith}
+use mathlib.Core.List.{Perm}
 use Rattle.std.specs.Cmp.{IsTotalOrder}
 use Rattle.stops.specs.declared.refusal.Refusal.{Refusal}
 use Rattle.std.specs.declared.cmp.Ord as Ord
@@ -16,6 +17,11 @@ module _ {X : Type 0} {ord : Ord.Ghosts X} {equal : PartialEq.Ghosts X} {partial
   pub added_heaped : (o : IsTotalOrder R) (x : X) (r : Result (Unit {0}) Refusal) → Added R x p r q → Heaped o (entries p) → Heaped o (entries q)
   added_heaped o x (Ok u) a h = a.1.2 o h
   added_heaped o x (Err e) a h = subst (λ (z : Queue X ord equal partial). Heaped o (entries z)) (sym a.2) h
+
+  -- where there is room, the entry is held besides
+  pub added_more : (x : X) (r : Result (Unit {0}) Refusal) → Added R x p r q → length (entries p) < p.room → Perm (x ∷ entries p) (entries q)
+  added_more x (Ok u) a h = a.1.0
+  added_more x (Err e) a h = absurd (omega (arith, a.1))
 
   pub added_room : (x : X) (r : Result (Unit {0}) Refusal) → Added R x p r q → q.room ≡ p.room
   added_room x (Ok u) a = a.1.1

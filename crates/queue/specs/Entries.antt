@@ -1,10 +1,8 @@
 -- The kinds of entries: their orders, which a derived `Ord` has, and what these say in numbers.
 use Rattle.std.specs.Prelude.{◌≡◌, ◌<◌, ◌≤◌, ◌⊎◌}
-use Rattle.std.specs.Cmp.{IsTotalOrder}
+use Rattle.std.specs.Cmp.{IsTotalOrder, nat_cmp_total, on_total, then_total}
 use Rattle.queue.specs.contracts.due.DueOrd.TheImpl as due-ord
-use Rattle.queue.specs.contracts.due.DueOrd.TheImpl.Laws as due-laws
 use Rattle.queue.specs.contracts.visit.PlannedVisitOrd.TheImpl as visit-ord
-use Rattle.queue.specs.contracts.visit.PlannedVisitOrd.TheImpl.Laws as visit-laws
 use Rattle.queue.specs.contracts.due.DuePartialEq.TheImpl as due-eq
 use Rattle.queue.specs.contracts.due.DuePartialOrd.TheImpl as due-part
 use Rattle.queue.specs.contracts.visit.PlannedVisitPartialEq.TheImpl as visit-eq
@@ -15,11 +13,13 @@ use Rattle.queue.specs.declared.visit.PlannedVisit.{PlannedVisit}
 
 -- by deadline, then number
 abbrev pub by_due : IsTotalOrder (due-ord.ghosts).cmp
-by_due = due-laws.total-law
+by_due = then_total (on_total (λ (d : Due). d.deadline) nat_cmp_total) (on_total (λ (d : Due). d.number) nat_cmp_total)
 
 -- by minute, then van, then number
 abbrev pub by_visit : IsTotalOrder (visit-ord.ghosts).cmp
-by_visit = visit-laws.total-law
+by_visit =
+    then_total (on_total (λ (v : PlannedVisit). v.minute) nat_cmp_total)
+    (then_total (on_total (λ (v : PlannedVisit). v.van) nat_cmp_total) (on_total (λ (v : PlannedVisit). v.number) nat_cmp_total))
 
 -- the queues of these entries
 abbrev pub DueQueue : Type 0

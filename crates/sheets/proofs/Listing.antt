@@ -1,21 +1,14 @@
--- A plan's queue: a visit goes in where there is room, and all visits come out in order.
-use Rattle.std.proofs.Common.{◌≡◌, ℕ, ◌<◌, ◌≤◌, List, ◌∷◌, length, take, Ok, Err, Result, ◌∙◌, sym, arith}
+-- A plan's queue: all visits come out in order.
+use Rattle.std.proofs.Common.{◌≡◌, ℕ, ◌≤◌, List, length, take, Ok, Err, Result, ◌∙◌, sym, arith}
 use Rattle.std.specs.Result.{result_unwrap_or}
-use mathlib.Core.List.{Perm}
 use Rattle.stops.specs.declared.refusal.Refusal.{Refusal}
-use Rattle.queue.specs.contracts.visit.PlannedVisitOrd.TheImpl as visit-ord
 use Rattle.queue.specs.declared.visit.PlannedVisit.{PlannedVisit}
 use Rattle.queue.specs.Entries.{VisitQueue, by_visit}
 use Rattle.queue.specs.Orders.{Heaped}
 use Rattle.queue.specs.Plans.{Planned}
-use Rattle.queue.specs.Queues.{entries, Added}
+use Rattle.queue.specs.Queues.{entries}
 use Rattle.sheets.specs.Plans.{in_order}
 use Rattle.sheets.proofs.Sorting.{in_order_perm, in_order_still}
-
--- a visit is added where there is room
-pub add_put : (p q : VisitQueue) (x : PlannedVisit) (r : Result (Unit {0}) Refusal) → Added (visit-ord.ghosts).cmp x p r q → length (entries p) < p.room → Perm (x ∷ entries p) (entries q)
-add_put p q x (Ok u) t h = t.1.0
-add_put p q x (Err e) t h = absurd (omega (arith, t.1))
 
 -- what is taken off stands in order at the front of the list
 pub planned_all : (p q : VisitQueue) (old new : List PlannedVisit) (r : Result ℕ Refusal) → Planned p old r q new → Heaped by_visit (entries p) → length (entries p) ≤ length old → take (result_unwrap_or r 0) new ≡ in_order (entries p)

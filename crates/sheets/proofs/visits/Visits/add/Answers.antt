@@ -1,7 +1,6 @@
 use Rattle.std.proofs.Common.{◌∙◌, arith}
 use Rattle.queue.specs.Entries.{by_visit}
-use Rattle.queue.proofs.Kept.{added_heaped, added_room}
-use Rattle.sheets.proofs.Listing.{add_put}
+use Rattle.queue.proofs.Kept.{added_heaped, added_more, added_room}
 use Rattle.sheets.proofs.visits.Visits.add.Goals as goal
 
 pub invariant_of-self : goal.invariant_of-self
@@ -12,4 +11,4 @@ invariant_of-self c =
 pub returns : goal.returns
 returns c =
     let v = c.args.self.now in
-    add_put v.queue c.add.new.self c.args.visit c.add.result c.add.ensures (omega (arith, v.sized, c.requires))
+    added_more _ v.queue c.add.new.self c.args.visit c.add.result c.add.ensures (omega (arith, v.sized, c.requires))
