@@ -1,7 +1,6 @@
 ghost use Rattle.std.specs.Prelude.{◌≡◌};
 ghost use Rattle.fleet.specs.Layers.{layered, up};
 ghost use Rattle.fleet.specs.Layering.{layered_laws};
-ghost use Rattle.std.proofs.Common.{rules};
 
 use crate::interface::{Fleet, Routed};
 use crate::layer::Layer;
@@ -75,7 +74,7 @@ impl<R: OwnRule, F: Fleet> Fleet for Layer<R, F> {
 
 // On a routed fleet a layer is routed, with the visits from below.
 impl<R: OwnRule, F: Routed> Routed for Layer<R, F> {
-    ghost always = { Prim.search rules };
+    ghost always = { F.Routed.always };
 
     fn visit(&self, number: u16) -> Option<Visit> {
         self.below.visit(number)

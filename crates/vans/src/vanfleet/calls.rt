@@ -1,10 +1,9 @@
-ghost use Rattle.std.specs.Prelude.{List};
+ghost use Rattle.std.specs.Prelude.{List, refl};
 ghost use Rattle.fleet.specs.Loads.{Load};
 ghost use Rattle.vans.specs.declared.van.Van.{Van};
 ghost use Rattle.vans.specs.Fleets.{vans_of, rounds_of};
 ghost use Rattle.vans.specs.Meaning.{van_meaning};
 ghost use Rattle.vans.specs.VanLaws.{van_laws};
-ghost use Rattle.std.proofs.Common.{rules, arith};
 
 use crate::tallies::joined;
 use crate::vanfleet::VanFleet;
@@ -75,7 +74,7 @@ impl Fleet for VanFleet {
 
 // The minute of a visit is the begin at that stop.
 impl Routed for VanFleet {
-    ghost always = { first_of (Prim.search rules, Prim.grind (arith, Self.row.coded.inj)) };
+    ghost always = { refl };
 
     fn visit(&self, number: u16) -> Option<Visit> {
         match self.find(number) {
