@@ -1,5 +1,5 @@
 -- A heap of entries: its first one, and what std's calls do to it, which has the entries with their order turned round.
-use Rattle.std.proofs.Common.{◌≡◌, ℕ, zero, suc, ◌+◌, ◌*◌, ◌<◌, ◌≤◌, Bool, true, false, List, [], ◌∷◌, map, length, get_or, Some, Ok, Err, Result, Ordering, sym, refl, ap, ◌∙◌, subst, ⊎_elim, true≢false, arith, OnOk, IsOk}
+use Rattle.std.proofs.Common.{◌≡◌, ℕ, zero, suc, ◌+◌, ◌*◌, ◌<◌, ◌≤◌, Bool, true, false, List, [], ◌∷◌, map, length, get_or, Some, Ok, Err, Result, Ordering, sym, refl, ap, ◌∙◌, subst, ⊎_elim, true≢false, arith, MatchResult, IsOk}
 use mathlib.Core.List.Perm
 use mathlib.Core.List.{Perm}
 use lib.ListN.{length-map, get_or-map}
@@ -43,9 +43,9 @@ none_heaped xs e o at c = let z : length xs ≡ 0 = ap length e in absurd (omega
 
 -- ---- std's heap
 -- what holds of a result that is done
-pub done : {A E : Type 0} (P : Type 0) (r : Result A E) → OnOk r P → IsOk r → P
-done P (Ok x) h e = h
-done P (Err x) h e = absurd (true≢false (sym e))
+pub done : {A E : Type 0} (P : Type 0) (Q : E → Type 0) (r : Result A E) → MatchResult r (λ _. P) Q → IsOk r → P
+done P Q (Ok x) h e = h
+done P Q (Err x) h e = absurd (true≢false (sym e))
 
 module _ {X : Type 0} where
   abbrev plain : List (Reverse X) → List X

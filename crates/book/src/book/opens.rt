@@ -10,18 +10,26 @@ use offers::memory::Memory;
 use offers::offers::Offers;
 use stops::table::SlotTable;
 
+// A fleet with nothing held.
+fn cleared<F: Fleet>(mut fleet: F) -> F
+    ensures setup { F.Fleet.setup result ≡ F.Fleet.setup fleet }
+    ensures standing { F.Fleet.standing result ≡ F.Fleet.meaning.cleared (F.Fleet.setup fleet) }
+{
+    fleet.clear();
+    fleet
+}
+
 impl<F: Fleet> Book<F> {
     // A book with no number, at minute 0, over a fleet that is cleared.
-    pub fn open(memory: Memory, table: SlotTable, mut fleet: F) -> Book<F>
+    pub fn open(memory: Memory, table: SlotTable, fleet: F) -> Book<F>
         ensures view { view F.Fleet result ≡ opened F.Fleet.meaning (slots_of table) (F.Fleet.setup fleet) }
         ensures table { result.table ≡ table }
         ensures theorem { Theorem F.Fleet.meaning (slots_of table) (F.Fleet.setup fleet) [] (view F.Fleet result) }
     {
-        fleet.clear();
         Book {
             table,
             offers: Offers::new(memory),
-            fleet,
+            fleet: cleared(fleet),
         }
     }
 }

@@ -10,7 +10,7 @@ returns g c =
     let f = g.F.Fleet in
     let u = f.setup c.args.fleet in
     let s = slots_of c.args.table in
-    let v = view_same refl c.clear.ensures.setup c.new.ensures.time c.new.ensures.records c.clear.ensures.standing in
+    let v = view_same refl c.cleared.ensures.setup c.new.ensures.time c.new.ensures.records c.cleared.ensures.standing in
     record {
       view = v;
       table = refl;

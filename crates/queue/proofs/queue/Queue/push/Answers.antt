@@ -15,7 +15,7 @@ pub invariant_of-self : goal.invariant_of-self
 invariant_of-self g c =
     let p = c.args.self.now in
     let some = free p c.requires in
-    let len = done _ c.push.result c.push.ensures.len (c.push.ensures.succeeds (omega (arith, p.reserved))) in
+    let len = done _ _ c.push.result c.push.ensures.len (c.push.ensures.succeeds (omega (arith, p.reserved))) in
     record { within = omega arith; reserved = omega (arith, p.reserved, c.push.ensures.capacity) }
 
 pub returns : goal.returns
@@ -23,5 +23,5 @@ returns g c =
     let p = c.args.self.now in
     let some = free p c.requires in
     let ok = c.push.ensures.succeeds (omega (arith, p.reserved)) in
-    let h = pushed c.args.entry (heap_items p.heap) (heap_items c.push.new.self) (done _ c.push.result c.push.ensures.permutation ok, done _ c.push.result c.push.ensures.heap_order ok) in
+    let h = pushed c.args.entry (heap_items p.heap) (heap_items c.push.new.self) (done _ _ c.push.result c.push.ensures.permutation ok, done _ _ c.push.result c.push.ensures.heap_order ok) in
     (h.0, refl, h.1)
