@@ -6,18 +6,10 @@ ghost use Rattle.book.specs.Books.{view};
 
 use crate::book::Book;
 use fleet::interface::Fleet;
+use fleet::layer::makes::cleared;
 use offers::memory::Memory;
 use offers::offers::Offers;
 use stops::table::SlotTable;
-
-// A fleet with nothing held.
-fn cleared<F: Fleet>(mut fleet: F) -> F
-    ensures setup { F.Fleet.setup result ≡ F.Fleet.setup fleet }
-    ensures standing { F.Fleet.standing result ≡ F.Fleet.meaning.cleared (F.Fleet.setup fleet) }
-{
-    fleet.clear();
-    fleet
-}
 
 impl<F: Fleet> Book<F> {
     // A book with no number, at minute 0, over a fleet that is cleared.

@@ -6,7 +6,7 @@ use crate::layer::Layer;
 use crate::rule::OwnRule;
 
 // The fleet with nothing held.
-fn cleared<F: Fleet>(mut fleet: F) -> F
+pub fn cleared<F: Fleet>(mut fleet: F) -> F
     ensures setup { F.Fleet.setup result ≡ F.Fleet.setup fleet }
     ensures standing { F.Fleet.standing result ≡ F.Fleet.meaning.cleared (F.Fleet.setup fleet) }
 {

@@ -2,7 +2,7 @@ ghost use Rattle.std.specs.Prelude.{◌≡◌, ◌<◌, [], ◌∷◌, length, I
 ghost use mathlib.Core.List.{Perm};
 ghost use Rattle.stops.specs.Refusals.{refused};
 ghost use Rattle.calls.specs.Limits.{number_limit};
-ghost use Rattle.sheets.specs.Plans.{in_order};
+ghost use Rattle.sheets.specs.Plans.{in_order, Ordered};
 ghost use Rattle.sheets.specs.Queued.{queued};
 
 use crate::visits::Visits;
@@ -43,7 +43,8 @@ impl Visits {
 
     // Takes all visits off the queue, in order.
     pub(crate) fn take_all(&mut self) -> &[PlannedVisit]
-        ensures { result.now ≡ in_order (queued self.old) }
+        ensures value { result.now ≡ in_order (queued self.old) }
+        ensures order { Ordered (queued self.old) }
     {
         let count = self.queue.plan_into(&mut self.list).unwrap_or(0);
         &self.list[0..count]

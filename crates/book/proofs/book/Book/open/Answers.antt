@@ -1,4 +1,4 @@
-use Rattle.std.proofs.Common.{[], sym, refl, subst}
+use Rattle.std.proofs.Common.{[], sym, refl, subst, rules}
 use Rattle.stops.specs.Slots.{slots_of}
 use Rattle.calls.specs.Theorem.{Theorem}
 use Rattle.calls.proofs.Whole.{whole_opened}
@@ -10,9 +10,8 @@ returns g c =
     let f = g.F.Fleet in
     let u = f.setup c.args.fleet in
     let s = slots_of c.args.table in
-    let v = view_same refl c.cleared.ensures.setup c.new.ensures.time c.new.ensures.records c.cleared.ensures.standing in
     record {
-      view = v;
+      view = view_same refl (search rules) (search rules) (search rules) (search rules);
       table = refl;
-      theorem = subst (λ b. Theorem f.meaning s u [] b) (sym v) (whole_opened f.meaning g.met.F.Fleet.lawful s u);
+      theorem = subst (λ b. Theorem f.meaning s u [] b) (sym (view_same refl (search rules) (search rules) (search rules) (search rules))) (whole_opened f.meaning g.met.F.Fleet.lawful s u);
     }
