@@ -5,3 +5,4 @@ pub mod Tests
 pub mod Places
 pub mod Slots
 pub mod Stops
+pub mod Counts

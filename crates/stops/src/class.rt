@@ -1,4 +1,4 @@
-ghost use Rattle.std.specs.Prelude.{Some};
+ghost use Rattle.std.specs.Prelude.{◌≡◌, Some};
 ghost use Rattle.stops.specs.Classes.{letter};
 
 use std::fmt;
@@ -10,13 +10,22 @@ pub enum Class {
     Trade,
 }
 
+impl Class {
+    // The letter that stands for it in commands and sheets.
+    pub const fn letter(&self) -> &'static str
+        ensures { result.now ≡ letter self.now }
+    {
+        match *self {
+            Class::Private => "P",
+            Class::Trade => "T",
+        }
+    }
+}
+
 impl fmt::Display for Class {
     ghost output = { λ c. Some (letter c) };
 
     fn fmt<W: fmt::Write>(&self, f: &mut fmt::Formatter<W>) -> fmt::Result {
-        match *self {
-            Class::Private => f.write_str("P"),
-            Class::Trade => f.write_str("T"),
-        }
+        f.write_str(self.letter())
     }
 }

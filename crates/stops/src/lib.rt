@@ -1,5 +1,7 @@
 #![tactic(auto)]
 
+pub mod atmost;
+pub mod blank;
 pub mod class;
 pub mod limits;
 pub mod place;
