@@ -1,8 +1,8 @@
 -- The counts of areas and slots, and the laws of the rule that the quotas make.
-use Rattle.std.specs.Prelude.{◌≡◌, ℕ, ◌+◌, ◌<◌, ◌≤◌, Bool, true, false, cond, ◌&&◌, List, ◌∷◌, length, refl}
+use Rattle.std.specs.Prelude.{◌≡◌, ℕ, ◌+◌, ◌<◌, ◌≤◌, true, false, cond, List, ◌∷◌, length, refl}
 use Rattle.std.proofs.Common.{⊎_elim, ap, ◌∙◌, arith}
 use Rattle.std.proofs.lemmas.List.Sums.{sum_by-cons}
-use Rattle.std.proofs.lemmas.Bool.{cases_Bool, cond-true, cond-false, eqb-true, eq-eqb, ltb-true, lt-ltb, false≢true}
+use Rattle.std.proofs.lemmas.Bool.{cases_Bool, cond-true, cond-false, eqb-true, eq-eqb, ltb-true, lt-ltb, and_parts, and_from}
 use Rattle.stops.specs.declared.stop.Stop.{Stop}
 use Rattle.fleet.specs.Layers.{OwnLaws}
 use Rattle.fleet.specs.Orders.{sum_perm, length_perm}
@@ -12,7 +12,7 @@ use Rattle.areas.specs.Limits.{stop_limit}
 use Rattle.areas.specs.Quotas.{quota_at, inside, count, quotas}
 
 -- 1 for a stop in an area and a slot, and 0 for any other
-abbrev pub one : ℕ → ℕ → Stop → ℕ
+abbrev one : ℕ → ℕ → Stop → ℕ
 one a i s = cond (inside a i s) 1 0
 
 -- one more stop adds what it counts
@@ -25,32 +25,21 @@ one_here a i s e = cond-true (inside a i s) 1 0 e
 one_there : (a i : ℕ) (s : Stop) → inside a i s ≡ false → one a i s ≡ 0
 one_there a i s e = cond-false (inside a i s) 1 0 e
 
--- at most 1
-pub one_at_most : (a i : ℕ) (s : Stop) → one a i s ≤ 1
-one_at_most a i s = ⊎_elim (λ h. omega (arith, one_here a i s h)) (λ h. omega (arith, one_there a i s h)) (cases_Bool (inside a i s))
-
-both : (a b : Bool) → (a && b) ≡ true → (a ≡ true) × (b ≡ true)
-both true b e = (refl, e)
-both false b e = absurd (false≢true e)
-
-and_true : (a b : Bool) → a ≡ true → b ≡ true → (a && b) ≡ true
-and_true a b p q = ap (λ c. c && b) p ∙ q
-
 -- a stop is in its own area and slot
 at_home : (s : Stop) → inside (area s.place) s.slot s ≡ true
-at_home s = and_true _ _ (eq-eqb (area s.place) (area s.place) refl) (eq-eqb s.slot s.slot refl)
+at_home s = and_from _ _ (eq-eqb (area s.place) (area s.place) refl) (eq-eqb s.slot s.slot refl)
 
 module _ (q : Quotas) (l : List Stop) (s : Stop) where
   -- a stop that passes the test: there are fewer stops than the limit, and fewer than the quota where it is
   passed : quotas.admits q l s ≡ true → (length l < stop_limit) × (count (area s.place) s.slot l < quota_at q (area s.place) s.slot)
-  passed e = let p = both _ _ e in (ltb-true _ _ p.0, ltb-true _ _ p.1)
+  passed e = let p = and_parts _ _ e in (ltb-true _ _ p.0, ltb-true _ _ p.1)
 
   -- in each area and slot the quota is kept with it
   within : (a i : ℕ) → count a i l ≤ quota_at q a i → quotas.admits q l s ≡ true → count a i (s ∷ l) ≤ quota_at q a i
   within a i k e =
       ⊎_elim
       (λ h.
-      let b = both _ _ h in
+      let b = and_parts _ _ h in
       let x = eqb-true (area s.place) a b.0 in
       let y = eqb-true s.slot i b.1 in
       let counts : count (area s.place) s.slot l ≡ count a i l = ap (λ z. count z s.slot l) x ∙ ap (λ z. count a z l) y in
@@ -63,7 +52,7 @@ module _ (q : Quotas) (l : List Stop) (s : Stop) where
   passes : quotas.keeps q (s ∷ l) → quotas.admits q l s ≡ true
   passes k =
       let a = area s.place in
-      and_true _ _
+      and_from _ _
       (lt-ltb (length l) stop_limit (omega (arith, k.0)))
       (lt-ltb (count a s.slot l) (quota_at q a s.slot) (omega (arith, k.1 a s.slot, count_cons a s.slot s l, one_here a s.slot s (at_home s))))
 

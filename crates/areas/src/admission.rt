@@ -6,7 +6,7 @@ ghost use Rattle.areas.specs.Limits.{stop_limit};
 
 use stops::stop::Stop;
 
-// The rule of a fleet that holds its load in a list, with its figures.
+// The rule of a fleet that holds its load in a list, with its figures. It tests the list, where a layer's own rule tests a fleet.
 pub trait Admission: Drop {
     // Which stops may be held together, and the test of one more.
     ghost own: { Own Self };

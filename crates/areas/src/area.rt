@@ -7,6 +7,7 @@ use stops::limits::GRID_LEAST;
 use stops::place::Place;
 
 // The area of a place, counted along x and then along y from the corner where both are least.
+#[tactic(auto, using(crate::proofs::Cells::area_bound), unfolding(crate::specs::Areas::area))]
 pub const fn area_of(place: &Place) -> u8
     ensures value { result ≡ area place.now }
     ensures bound { result ≤ last_area }

@@ -3,7 +3,7 @@ ghost use Rattle.areas.specs.Limits.{stop_limit};
 
 use stops::stop::Stop;
 
-// A fleet that holds its load in a list, under an admission rule. All its memory was reserved before.
+// A fleet that holds its load in a list, under an admission rule. All its memory was reserved before: a map would ask for more at each place.
 #[derive(Drop)]
 pub struct Holding<Q> {
     rule: Q,

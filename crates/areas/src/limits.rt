@@ -13,4 +13,4 @@ pub const ROW: u8 = 4;
 pub const SIDE: u8 = 50;
 
 // The most stops of a quota.
-pub const QUOTA: u32 = 40;
+pub const QUOTA: u16 = 40;

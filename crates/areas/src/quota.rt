@@ -1,11 +1,5 @@
-ghost use Rattle.std.specs.Prelude.{◌≤◌};
-ghost use Rattle.areas.specs.Limits.{quota_limit};
+use crate::limits::QUOTA;
+use stops::atmost::AtMost;
 
 // The most stops of an area in one slot.
-#[derive(Clone, Copy, PartialEq, Eq, Debug)]
-pub struct Quota {
-    pub stops: u8,
-    ghost few: { stops ≤ quota_limit },
-}
-
-pub mod makes;
+pub type Quota = AtMost<QUOTA>;

@@ -15,7 +15,7 @@ pub data Reached {Setup Standing : Type 0} (m : Meaning Setup Standing) (u : Set
 -- there is a visit, and its minute is from open to close of the stop
 abbrev pub Within : Stop → Option Visit → Type 0
 Within s None = ⊥
-Within s (Some v) = (s.opens ≤ v.minute) × (v.minute ≤ s.closes)
+Within s (Some v) = (s.hours.opens ≤ v.minute) × (v.minute ≤ s.hours.closes)
 
 pub record Laws {Setup Standing : Type 0} (m : Meaning Setup Standing) : Type 0 where
   -- making and clearing leave an empty load

@@ -1,5 +1,5 @@
 -- The counts of one slot.
-use Rattle.std.specs.Prelude.{ℕ, cond, List, sum_by, ◌==◌}
+use Rattle.std.specs.Prelude.{ℕ, min, cond, List, sum_by, ◌==◌}
 use Rattle.stops.specs.declared.class.Class.TheVariants.{Private, Trade}
 use Rattle.stops.specs.declared.stop.Stop.{Stop}
 use Rattle.fleet.specs.declared.tally.Tally.{Tally}
@@ -33,3 +33,11 @@ tallied l i = record { privates = private_count l i; trades = trade_count l i; u
 -- the tally of no stops
 abbrev pub nothing_held : Tally
 nothing_held = record { privates = 0; trades = 0; units = 0 }
+
+-- the greatest count that a tally can show
+abbrev pub count_limit : ℕ
+count_limit = 4294967295
+
+-- a tally as it is shown
+abbrev pub shown : Tally → Tally
+shown t = record { privates = min t.privates count_limit; trades = min t.trades count_limit; units = min t.units count_limit }

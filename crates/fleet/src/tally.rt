@@ -1,5 +1,5 @@
-ghost use Rattle.std.specs.Prelude.{◌≡◌};
-ghost use Rattle.fleet.specs.Tallies.{nothing_held, one_private, one_trade, slot_units};
+ghost use Rattle.std.specs.Prelude.{◌≡◌, ◌+◌, min};
+ghost use Rattle.fleet.specs.Tallies.{count_limit, nothing_held, one_private, one_trade, slot_units};
 
 use stops::class::Class;
 use stops::stop::Stop;
@@ -41,6 +41,19 @@ impl Tally {
             privates,
             trades,
             units: stop.units as u32,
+        }
+    }
+
+    // The counts of two tallies together; one that does not fit stays at the greatest number.
+    pub const fn saturating_add(self, more: Tally) -> Tally
+        ensures privates { result.privates ≡ min (self.privates + more.privates) count_limit }
+        ensures trades { result.trades ≡ min (self.trades + more.trades) count_limit }
+        ensures units { result.units ≡ min (self.units + more.units) count_limit }
+    {
+        Tally {
+            privates: self.privates.saturating_add(more.privates),
+            trades: self.trades.saturating_add(more.trades),
+            units: self.units.saturating_add(more.units),
         }
     }
 }

@@ -1,4 +1,6 @@
 pub mod Limits
 pub mod Figures
+pub mod SlotRules
+pub mod BySlots
 pub mod OwnRules
 pub mod Tested

@@ -1,42 +1,47 @@
--- The laws of the two own rules, and what their tests come to.
-use Rattle.std.specs.Prelude.{◌≡◌, ◌+◌, max, Bool, List, ◌∷◌, nat_le}
-use Rattle.std.proofs.Common.{ap, ◌∙◌, arith}
-use Rattle.std.proofs.lemmas.List.Sums.{sum_by-cons}
+-- The laws of the two own rules, and what their test comes to.
+use Rattle.std.specs.Prelude.{◌≡◌, Bool, List, ◌∷◌, nat_le}
+use Rattle.std.proofs.Common.{sym, ◌∙◌, ⊎_elim, arith}
+use Rattle.std.proofs.lemmas.Bool.{cases_Bool, leb-true, leb-false, le-leb, lt-leb}
 use Rattle.stops.specs.declared.stop.Stop.{Stop}
 use Rattle.fleet.specs.declared.tally.Tally.{Tally}
+use Rattle.fleet.specs.Tallies.{tallied, shown}
 use Rattle.fleet.specs.Layers.{OwnLaws}
 use Rattle.fleet.specs.Slotwise.{slotwise}
-use Rattle.fleet.specs.Tallies.{tallied, private_count, trade_count, unit_count, one_private, one_trade, slot_units}
-use Rattle.fleet.proofs.Counts.{units_here}
 use Rattle.fleet.proofs.Slotwise.{slotwise_laws}
-use Rattle.layers.specs.declared.rules.reserve.Reserve.{Reserve}
-use Rattle.layers.specs.declared.rules.weight.Weight.{Weight}
-use Rattle.layers.specs.declared.share.Share.{Share}
-use Rattle.layers.specs.declared.weight.WeightLimit.{WeightLimit}
-use Rattle.layers.specs.OwnRules.{share_at, reserve, limit_at, weight}
+use Rattle.layers.specs.declared.rules.byslot.BySlot.{BySlot}
+use Rattle.layers.specs.SlotRules.{SlotRule, SlotLaws}
+use Rattle.layers.specs.BySlots.{figures_at, by_slot}
+use Rattle.layers.specs.OwnRules.{share_rule, weight_rule}
 
-pub reserve_laws : OwnLaws (slotwise reserve)
-reserve_laws = slotwise_laws reserve (record {
-  nothing = λ r i. omega (arith, (share_at r i).within);
-  rises = λ r i a b p t u. omega arith;
+pub by_slot_laws : {Figures : Type 0} (w : SlotRule Figures) → SlotLaws w → OwnLaws (slotwise (by_slot w))
+by_slot_laws w l = slotwise_laws (by_slot w) (record {
+  nothing = λ b i. l.nothing (figures_at w b i);
+  rises = λ b i. l.rises (figures_at w b i);
 })
 
-pub weight_laws : OwnLaws (slotwise weight)
-weight_laws = slotwise_laws weight (record {
-  nothing = λ w i. omega arith;
-  rises = λ w i a b p t u. u;
-})
+pub share_laws : SlotLaws share_rule
+share_laws = record {
+  nothing = λ h. omega (arith, h.within);
+  rises = λ h a b p t u. omega arith;
+  shows = λ h t k. omega (arith, h.few);
+}
 
--- the counts with one more stop, against the places of its slot
-pub reserve_tested : (r : Reserve) (l : List Stop) (s : Stop) (h : Share) (t one : Tally) (b : Bool) → h ≡ share_at r s.slot → t ≡ tallied l s.slot → one.privates ≡ one_private s.slot s → one.trades ≡ one_trade s.slot s
-    → b ≡ nat_le (t.privates + one.privates + max h.kept (t.trades + one.trades)) h.places → b ≡ (slotwise reserve).admits r l s
-reserve_tested r l s h t one b a e p q f =
-    let privates : t.privates + one.privates ≡ private_count (s ∷ l) s.slot = omega (arith, ap (λ (x : Tally). x.privates) e, sum_by-cons (one_private s.slot) s l) in
-    let trades : t.trades + one.trades ≡ trade_count (s ∷ l) s.slot = omega (arith, ap (λ (x : Tally). x.trades) e, sum_by-cons (one_trade s.slot) s l) in
-    f ∙ rw (privates, trades, a)
+pub weight_laws : SlotLaws weight_rule
+weight_laws = record {
+  nothing = λ h. omega arith;
+  rises = λ h a b p t u. u;
+  shows = λ h t k. omega (arith, h.few);
+}
 
--- the units with one more stop, against the limit of its slot
-pub weight_tested : (w : Weight) (l : List Stop) (s : Stop) (h : WeightLimit) (t : Tally) (b : Bool) → h ≡ limit_at w s.slot → t ≡ tallied l s.slot → b ≡ nat_le (t.units + s.units) h.units → b ≡ (slotwise weight).admits w l s
-weight_tested w l s h t b a e f =
-    let units : t.units + s.units ≡ unit_count (s ∷ l) s.slot = omega (arith, ap (λ (x : Tally). x.units) e, sum_by-cons (slot_units s.slot) s l, units_here s) in
-    f ∙ rw (units, a)
+-- what is shown of the counts decides
+shown_decides : {Figures : Type 0} (w : SlotRule Figures) → SlotLaws w → (h : Figures) (t : Tally) → nat_le (w.used h (shown t)) (w.room h) ≡ nat_le (w.used h t) (w.room h)
+shown_decides w laws h t =
+    ⊎_elim
+    (λ e. e ∙ sym (le-leb _ _ (laws.shows h t (leb-true _ _ e))))
+    (λ e. e ∙ sym (lt-leb _ _ (omega (arith, leb-false _ _ e, laws.rises h (shown t) t (omega arith) (omega arith) (omega arith)))))
+    (cases_Bool (nat_le (w.used h (shown t)) (w.room h)))
+
+-- the test of what is shown with one more stop, against the figures of its slot
+pub slot_tested : {Figures : Type 0} (w : SlotRule Figures) → SlotLaws w → (b : BySlot Figures) (h : Figures) (t : Tally) (s : Stop) (l : List Stop) (r : Bool)
+    → h ≡ figures_at w b s.slot → t ≡ shown (tallied (s ∷ l) s.slot) → r ≡ nat_le (w.used h t) (w.room h) → r ≡ (slotwise (by_slot w)).admits b l s
+slot_tested w laws b h t s l r e f k = k ∙ rw (f, e) (shown_decides w laws (figures_at w b s.slot) (tallied (s ∷ l) s.slot))

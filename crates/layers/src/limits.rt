@@ -4,4 +4,4 @@
 pub const PLACES: u32 = 256;
 
 // The most units of a slot's weight limit.
-pub const WEIGHT: u32 = 9999;
+pub const WEIGHT: u16 = 9999;

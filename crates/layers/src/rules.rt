@@ -1,2 +1,3 @@
+pub mod byslot;
 pub mod reserve;
 pub mod weight;

@@ -6,7 +6,6 @@ use lib.Signed.{le_z}
 use Rattle.stops.specs.declared.class.Class.{Class}
 use Rattle.stops.specs.declared.place.Place.{Place}
 use Rattle.stops.specs.declared.slot.Slot.{Slot}
-use Rattle.stops.specs.declared.stop.Stop.{Stop}
 use Rattle.stops.specs.declared.table.SlotTable.{SlotTable}
 use Rattle.stops.specs.Limits.{grid_least, grid_most, last_minute, last_slot, slot_limit, unit_limit}
 use Rattle.stops.specs.Places.{place_of}
@@ -49,7 +48,5 @@ slot_made s = below s.opens s.closes _ s.apart ∙ most s.closes last_minute _ s
 pub table_made : (t : SlotTable) → table_of t.slots ≡ Some t
 table_made t = most 1 (vec_len t.slots) _ t.some ∙ most (vec_len t.slots) slot_limit _ t.few
 
-pub stop_made : (n u : ℕ) (h : Slot) (p : Place) (k : Class) (a : n ≤ last_slot) (d : h.opens < h.closes) (e : h.closes ≤ last_minute) (b : 1 ≤ u) (f : u ≤ unit_limit) → stop_of n h p u k ≡ Some (record { slot = n; opens = h.opens; closes = h.closes; place = p; units = u; class = k; known = a; apart = d; day = e; some = b; few = f })
-stop_made n u h p k a d e b f =
-    let make : h.opens < h.closes → h.closes ≤ last_minute → Option Stop = λ x y. Some (record { slot = n; opens = h.opens; closes = h.closes; place = p; units = u; class = k; known = a; apart = x; day = y; some = b; few = f }) in
-    most n last_slot _ a ∙ (most 1 u _ b ∙ (most u unit_limit _ f ∙ (ap (λ x. make x h.day) (le_prop h.apart d) ∙ ap (make d) (le_prop h.day e))))
+pub stop_made : (n u : ℕ) (h : Slot) (p : Place) (k : Class) (a : n ≤ last_slot) (b : 1 ≤ u) (f : u ≤ unit_limit) → stop_of n h p u k ≡ Some (record { slot = n; hours = h; place = p; units = u; class = k; known = a; some = b; few = f })
+stop_made n u h p k a b f = most n last_slot _ a ∙ (most 1 u _ b ∙ most u unit_limit _ f)

@@ -11,4 +11,4 @@ use Rattle.stops.specs.Tests.{when_most}
 abbrev pub stop_of : ℕ → Slot → Place → ℕ → Class → Option Stop
 stop_of slot hours place units class =
     when_most slot last_slot (λ k. when_most 1 units (λ s. when_most units unit_limit (λ f.
-    Some (record { slot = slot; opens = hours.opens; closes = hours.closes; place = place; units = units; class = class; known = k; apart = hours.apart; day = hours.day; some = s; few = f }))))
+    Some (record { slot = slot; hours = hours; place = place; units = units; class = class; known = k; some = s; few = f }))))

@@ -7,7 +7,7 @@ ghost use Rattle.areas.specs.Held.{holding_laws};
 use crate::admission::Admission;
 use crate::holding::Holding;
 use fleet::interface::Fleet;
-use fleet::load::position;
+use fleet::load::{position, tally_of};
 use fleet::tally::Tally;
 use stops::refusal::Refusal;
 use stops::stop::Stop;
@@ -40,14 +40,11 @@ impl<Q: Admission> Fleet for Holding<Q> {
     }
 
     fn check(&self, stop: &Stop) -> Option<u8> {
-        if self.admits(stop) { None } else { Some(0) }
+        (!self.admits(stop)).then_some(0)
     }
 
     fn holds(&self, number: u16) -> bool {
-        match position(self.held.as_slice(), number) {
-            Some(_) => true,
-            None => false,
-        }
+        position(self.held.as_slice(), number).is_some()
     }
 
     fn place(&mut self, number: u16, stop: &Stop) -> Result<(), Refusal> {
@@ -62,24 +59,13 @@ impl<Q: Admission> Fleet for Holding<Q> {
     }
 
     fn remove(&mut self, number: u16) -> Result<(), Refusal> {
-        match position(self.held.as_slice(), number) {
-            Some(i) => {
-                self.held.remove(i);
-                Ok(())
-            }
-            None => Err(Refusal::NumberNotHeld),
-        }
+        let place = position(self.held.as_slice(), number).ok_or(Refusal::NumberNotHeld)?;
+        self.held.remove(place);
+        Ok(())
     }
 
+    #[tactic(auto, using(fleet::proofs::Counts::tally_above))]
     fn tally(&self, slot: u8) -> Tally {
-        let mut tally = Tally::none();
-        let load = self.held.as_slice();
-        for entry in load {
-            let one = Tally::one(slot, &entry.1);
-            tally.privates += one.privates;
-            tally.trades += one.trades;
-            tally.units += one.units;
-        }
-        tally
+        tally_of(self.held.as_slice(), slot)
     }
 }

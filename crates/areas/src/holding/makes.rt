@@ -14,7 +14,7 @@ impl<Q: Admission> Holding<Q> {
     {
         Holding {
             rule,
-            held: memory.stops,
+            held: memory.into_list(),
         }
     }
 }

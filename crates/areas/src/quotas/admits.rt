@@ -1,4 +1,4 @@
-ghost use Rattle.std.specs.Prelude.{◌≡◌, ◌≤◌, length, if◌then◌else◌, nat_lt};
+ghost use Rattle.std.specs.Prelude.{◌≡◌, ◌≤◌, length, nat_lt};
 ghost use Rattle.stops.specs.Limits.{last_slot};
 ghost use Rattle.fleet.specs.Loads.{stops_of};
 ghost use Rattle.areas.specs.Limits.{last_area, stop_limit};
@@ -13,12 +13,12 @@ use stops::stop::Stop;
 
 impl Quotas {
     // The quota of an area and a slot.
-    const fn quota(&self, area: u8, slot: u8) -> usize
+    fn quota(&self, area: u8, slot: u8) -> usize
         requires { (area ≤ last_area) × (slot ≤ last_slot) }
         ensures { result ≡ quota_at self.now area slot }
     {
-        let quotas = self.areas[area as usize];
-        quotas.slots[slot as usize].stops as usize
+        let quotas = self.areas[usize::from(area)];
+        usize::from(quotas.slots[usize::from(slot)].count)
     }
 }
 
@@ -29,26 +29,20 @@ const fn has_room(load: &[(u16, Stop)]) -> bool
     load.len() < STOPS
 }
 
-// 1 for a stop in this area and slot, and 0 for any other.
-const fn one_inside(stop: &Stop, area: u8, slot: u8) -> usize
-    ensures { result ≡ (if inside area slot stop.now then 1 else 0) }
+// Whether a stop is in this area and slot.
+const fn is_inside(stop: &Stop, area: u8, slot: u8) -> bool
+    ensures { result ≡ inside area slot stop.now }
 {
-    if area_of(&stop.place) == area && stop.slot == slot {
-        1
-    } else {
-        0
-    }
+    area_of(&stop.place) == area && stop.slot == slot
 }
 
 // How many stops are in an area and a slot.
 fn count_inside(load: &[(u16, Stop)], area: u8, slot: u8) -> usize
     ensures { result ≡ count area slot (stops_of load.now) }
 {
-    let mut sum = 0;
-    for entry in load {
-        sum += one_inside(&entry.1, area, slot);
-    }
-    sum
+    load.iter()
+        .filter(|entry| is_inside(&entry.1, area, slot))
+        .count()
 }
 
 impl Admission for Quotas {

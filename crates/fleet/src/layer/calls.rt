@@ -38,10 +38,7 @@ impl<R: OwnRule, F: Fleet> Fleet for Layer<R, F> {
         if !self.own.admits(&self.below, stop) {
             return Some(0);
         }
-        match self.below.check(stop) {
-            Some(depth) => Some(one_up(depth)),
-            None => None,
-        }
+        self.below.check(stop).map(one_up)
     }
 
     fn holds(&self, number: u16) -> bool {
@@ -50,6 +47,7 @@ impl<R: OwnRule, F: Fleet> Fleet for Layer<R, F> {
 
     fn place(&mut self, number: u16, stop: &Stop) -> Result<(), Refusal> {
         if self.own.admits(&self.below, stop) {
+            // map_err would hold the same match in a closure
             return match self.below.place(number, stop) {
                 Err(Refusal::NoRoom(depth)) => Err(Refusal::NoRoom(one_up(depth))),
                 answer => answer,

@@ -14,6 +14,7 @@ impl Share {
         if kept > places || places > PLACES {
             return Err(Refusal::OutOfRange);
         }
+        // in range, and `try_from` is not const
         Ok(Share {
             places: places as u16,
             kept: kept as u16,

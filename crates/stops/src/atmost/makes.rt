@@ -13,6 +13,7 @@ impl<const MOST: u16> AtMost<MOST> {
         if count > MOST as u32 {
             return Err(Refusal::OutOfRange);
         }
+        // in range, and `try_from` is not const
         Ok(AtMost {
             count: count as u16,
         })

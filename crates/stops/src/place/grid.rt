@@ -14,6 +14,7 @@ impl Place {
         if x < GRID_LEAST || x > GRID_MOST || y < GRID_LEAST || y > GRID_MOST {
             return Err(Refusal::OutOfRange);
         }
+        // in range, and `try_from` is not const
         Ok(Place {
             x: x as i8,
             y: y as i8,

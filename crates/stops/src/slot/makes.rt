@@ -14,6 +14,7 @@ impl Slot {
         if opens >= closes || closes > LAST_MINUTE {
             return Err(Refusal::OutOfRange);
         }
+        // in range, and `try_from` is not const
         Ok(Slot {
             opens: opens as u16,
             closes: closes as u16,

@@ -23,10 +23,10 @@ impl Stop {
         if slot >= SLOTS as u32 || units < 1 || units > UNITS {
             return Err(Refusal::OutOfRange);
         }
+        // in range, and `try_from` is not const
         Ok(Stop {
             slot: slot as u8,
-            opens: hours.opens,
-            closes: hours.closes,
+            hours,
             place,
             units: units as u16,
             class,

@@ -1,16 +1,13 @@
-use Rattle.std.proofs.Common.{sym, ap, ◌∙◌}
-use Rattle.std.proofs.lemmas.List.{take_all}
-use Rattle.fleet.specs.Loads.{held}
-use Rattle.fleet.proofs.Positions.{found, held_more}
+use Rattle.std.proofs.Common.{◌≡◌, ℕ, false, MatchOption, Option, sym, subst, rules}
+use Rattle.std.proofs.lemmas.Iterator.{YieldsList-from_slice}
+use Rattle.std.proofs.lemmas.Iterator.Search.{position_from_yields_List}
+use Rattle.fleet.specs.Loads.{held, First}
+use Rattle.fleet.proofs.Positions.{under, first_at}
 use Rattle.fleet.proofs.load.position.Goals as goal
 
-pub returns-then-entry-number : goal.returns-then-entry-number
-returns-then-entry-number c =
-    found c.args.number c.args.load.now c.loop-i.i c.index-load-i.result c.loop-i-test.true c.index-load-i.is c.loop-i.invariant c.if-entry-number.true
-
-pub loop-i-preserved : goal.loop-i-preserved
-loop-i-preserved c =
-    held_more c.args.number c.args.load.now c.loop-i.i c.index-load-i.result c.loop-i-test.true c.index-load-i.is c.loop-i.invariant c.if-entry-number.false
-
 pub returns : goal.returns
-returns c = sym (ap (held c.args.number) (take_all c.loop-i.i c.args.load.now c.loop-i-test.false)) ∙ c.loop-i.invariant
+returns c =
+    let n = c.args.number in
+    let l = c.args.load.now in
+    let e = position_from_yields_List (under n) _ _ c.position.result c.position.ensures.ran (YieldsList-from_slice l c.iter.ensures.rest) (λ x b q k. search rules) in
+    subst (λ (r : Option ℕ). MatchOption r (held n l ≡ false) (First n l)) (sym e) (first_at n l)

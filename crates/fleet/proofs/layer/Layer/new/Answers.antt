@@ -1,9 +1,5 @@
-use Rattle.std.proofs.Common.{rules}
-use Rattle.fleet.specs.Layers.{LayerTheorem}
 use Rattle.fleet.specs.Layering.{layer_theorem}
 use Rattle.fleet.proofs.layer.Layer.new.Goals as goal
 
-pub returns : goal.returns
-returns g c =
-    let theorem : LayerTheorem g.R.OwnRule.own g.F.Fleet.meaning = layer_theorem g.R.OwnRule.own g.F.Fleet.meaning g.met.R.OwnRule.lawful g.met.F.Fleet.lawful in
-    search rules
+pub returns-clause-theorem : goal.returns-clause-theorem
+returns-clause-theorem g c = layer_theorem g.R.OwnRule.own g.F.Fleet.meaning g.met.R.OwnRule.lawful g.met.F.Fleet.lawful
