@@ -1,3 +1,4 @@
+pub mod Backward
 pub mod RoundSearch
 pub mod FleetSearch
 pub mod OneRound

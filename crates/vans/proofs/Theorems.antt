@@ -5,8 +5,7 @@ use Rattle.stops.specs.declared.stop.Stop.{Stop}
 use Rattle.stops.specs.Places.{distance}
 use Rattle.fleet.specs.Loads.{Load}
 use Rattle.vans.specs.declared.van.Van.{Van}
-use Rattle.vans.specs.declared.choice.Choice.{Choice}
-use Rattle.vans.specs.Cheapest.{Fits, Cheapest}
+use Rattle.vans.specs.Cheapest.{Choice, Fits, Cheapest}
 use Rattle.vans.specs.Chosen.{chosen}
 use Rattle.vans.specs.Meaning.{objection_of}
 use Rattle.vans.specs.Figures.{travel, service, InWindow, in_window}
@@ -18,7 +17,7 @@ use Rattle.vans.specs.Uniqueness.{chosen_cheapest, chosen_is}
 
 found : (vs : List Van) (rs : List Load) (s : Stop) (o : Option Choice) → Cheapest vs rs s o → objection_of o ≡ None → (w : ℕ) × (k : ℕ) × Fits vs rs s w k
 found vs rs s None h e = absurd (let z : ◌≡◌ {A = ℕ} 0 1 = cc in omega arith)
-found vs rs s (Some c) h e = (c.van, c.position, h.fits)
+found vs rs s (Some c) h e = (c.at.van, c.at.position, h.fits)
 
 taken : (vs : List Van) (rs : List Load) (s : Stop) (o : Option Choice) → Cheapest vs rs s o → (w k : ℕ) → Fits vs rs s w k → objection_of o ≡ None
 taken vs rs s None h w k f = absurd (h w k f)

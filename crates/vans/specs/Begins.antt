@@ -20,12 +20,12 @@ window_at v [] i d p t h g = absurd (omega arith)
 window_at v (s ∷ l) zero d p t h g = g.0
 window_at v (s ∷ l) (suc i) d p t h g = window_at v l i d _ _ (omega arith) g.1
 
-opens_begin : (v : Van) (p : Place) (t : ℕ) (s : Stop) → s.opens ≤ begin v p t s
+opens_begin : (v : Van) (p : Place) (t : ℕ) (s : Stop) → s.hours.opens ≤ begin v p t s
 unfolding begin
 opens_begin v p t s = omega arith
 
 -- the begin at a position is within the slot of the stop there
-pub begin_within : (v : Van) (l : List Stop) (i : ℕ) (d : Stop) → i < length l → OnTime v depot v.start l → ((get_or l i d).opens ≤ slice_index (begins v depot v.start l) i) × (slice_index (begins v depot v.start l) i ≤ (get_or l i d).closes)
+pub begin_within : (v : Van) (l : List Stop) (i : ℕ) (d : Stop) → i < length l → OnTime v depot v.start l → ((get_or l i d).hours.opens ≤ slice_index (begins v depot v.start l) i) × (slice_index (begins v depot v.start l) i ≤ (get_or l i d).hours.closes)
 begin_within v l i d h g =
     let e = begin_there v l i d depot v.start h in
     (omega (arith, e, opens_begin v (last_place depot (take i l)) (leaving v depot v.start (take i l)) (slice_index_or l i d)), omega (arith, e, window_close v (slice_index_or l i d) _ (window_at v l i d depot v.start h g)))

@@ -1,5 +1,6 @@
 -- The choice of a van fleet for a stop, computed from the definition of a lawful round.
-use Rattle.std.specs.Prelude.{ℕ, zero, suc, ◌+◌, ◌≤◌, Bool, true, false, cond, List, [], ◌∷◌, length, Some, None, Option, nat_lt}
+use Rattle.std.specs.Prelude.{ℕ, zero, suc, ◌+◌, ◌≤◌, Bool, true, false, cond, List, [], ◌∷◌, length, Some, None, Option}
+use Rattle.std.specs.Option.{option_map}
 use Rattle.std.proofs.Math.Decide.{dec_le}
 use Rattle.std.specs.List.{insert}
 use Rattle.stops.specs.declared.place.Place.{Place}
@@ -8,11 +9,12 @@ use Rattle.stops.specs.Places.{depot}
 use Rattle.fleet.specs.Loads.{Load, stops_of}
 use Rattle.vans.specs.declared.van.Van.{Van}
 use Rattle.vans.specs.declared.choice.Insertion.{Insertion}
-use Rattle.vans.specs.declared.choice.Choice.{Choice}
+use Rattle.vans.specs.declared.choice.Location.{Location}
 use Rattle.vans.specs.Limits.{stop_limit}
 use Rattle.vans.specs.Figures.{travel, service, in_window}
 use Rattle.vans.specs.Rounds.{begin, OnTime, total_units, added_travel}
-use Rattle.vans.specs.Insertions.{better}
+use Rattle.vans.specs.Better.{better, moved}
+use Rattle.vans.specs.Cheapest.{Choice}
 
 -- whether a fact that can be decided holds
 abbrev pub decided : {P : Type 0} → Dec P → Bool
@@ -34,29 +36,30 @@ on_time v p t (s ∷ l) = both (in_window v s (begin v p t s)) (on_time v s.plac
 abbrev pub lawful : (v : Van) (l : List Stop) → Dec ((length l ≤ stop_limit) × ((total_units l ≤ v.limit) × OnTime v depot v.start l))
 lawful v l = both (dec_le (length l) stop_limit) (both (dec_le (total_units l) v.limit) (on_time v depot v.start l))
 
+-- position k of a round, if s may lawfully stand there
+abbrev pub candidate : Van → List Stop → Stop → ℕ → Option (Insertion ℕ)
+candidate v l s k = cond (decided (lawful v (insert l k s))) (Some (record { at = k; added = added_travel v l k s })) None
+
 -- the cheapest of the first n positions of a round
-abbrev pub best_below : Van → List Stop → Stop → ℕ → Option Insertion
+abbrev pub best_below : Van → List Stop → Stop → ℕ → Option (Insertion ℕ)
 best_below v l s zero = None
-best_below v l s (suc n) = better (best_below v l s n) (decided (lawful v (insert l n s))) n (added_travel v l n s)
+best_below v l s (suc n) = better (best_below v l s n) (candidate v l s n)
 
 -- the cheapest lawful position of a round
-abbrev pub best : Van → List Stop → Stop → Option Insertion
+abbrev pub best : Van → List Stop → Stop → Option (Insertion ℕ)
 best v l s = best_below v l s (suc (length l))
 
--- a choice among the later vans, by its number among all
-abbrev pub shifted : Option Choice → Option Choice
-shifted None = None
-shifted (Some o) = Some (record { van = suc o.van; position = o.position; added = o.added })
+-- a position of the first van's round
+abbrev pub first_van : ℕ → Location
+first_van k = record { van = zero; position = k }
 
--- the first van's best position, unless the best of the later ones adds less
-abbrev pub prefer : Option Insertion → Option Choice → Option Choice
-prefer None o = o
-prefer (Some b) None = Some (record { van = zero; position = b.position; added = b.added })
-prefer (Some b) (Some o) = cond (nat_lt o.added b.added) (Some o) (Some (record { van = zero; position = b.position; added = b.added }))
+-- a position of a later van's round, by the van's number among all
+abbrev pub later_van : Location → Location
+later_van t = record { van = suc t.van; position = t.position }
 
--- the cheapest lawful position over all vans
+-- the cheapest lawful position over all vans: the first van's, unless that of the later ones adds less
 abbrev pub chosen : List Van → List Load → Stop → Option Choice
 chosen [] [] s = None
 chosen [] (r ∷ rs) s = None
 chosen (v ∷ vs) [] s = None
-chosen (v ∷ vs) (r ∷ rs) s = prefer (best v (stops_of r) s) (shifted (chosen vs rs s))
+chosen (v ∷ vs) (r ∷ rs) s = better (option_map (moved first_van) (best v (stops_of r) s)) (option_map (moved later_van) (chosen vs rs s))

@@ -23,7 +23,7 @@ far_east = record { x = pos 60; y = pos 0; west = record { le = tt }; east = rec
 
 -- a stop there, in a slot from 10 to a later minute
 abbrev pub stop_until : (closes : ℕ) → 10 < closes → closes ≤ last_minute → Stop
-stop_until closes apart day = record { slot = 0; opens = 10; closes = closes; place = far_east; units = 1; class = Private; known = lit≤ tt; apart = apart; day = day; some = lit≤ tt; few = lit≤ tt }
+stop_until closes apart day = record { slot = 0; hours = record { opens = 10; closes = closes; apart = apart; day = day }; place = far_east; units = 1; class = Private; known = lit≤ tt; some = lit≤ tt; few = lit≤ tt }
 
 abbrev pub until_60 : Stop
 until_60 = stop_until 60 (lit< tt) (lit≤ tt)

@@ -34,7 +34,7 @@ module _ (v : Van) where
   window_within s b c h le = le
 
   -- nothing passes after close
-  pub window_close : (s : Stop) (b : ℕ) → InWindow v s b → b ≤ s.closes
+  pub window_close : (s : Stop) (b : ℕ) → InWindow v s b → b ≤ s.hours.closes
   unfolding InWindow
   window_close s b h = h
 

@@ -17,13 +17,13 @@ service v s = service_minutes
 
 -- the window test: the stop s may begin at minute b, if that is not after its close
 unfoldable pub InWindow : Van → Stop → ℕ → Type 0
-InWindow v s b = b ≤ s.closes
+InWindow v s b = b ≤ s.hours.closes
 
 -- the last minute that passes the window test
 unfoldable pub window_end : Van → Stop → ℕ
-window_end v s = s.closes
+window_end v s = s.hours.closes
 
 -- whether a minute passes it
 unfoldable pub in_window : (v : Van) (s : Stop) (b : ℕ) → Dec (InWindow v s b)
 unfolding InWindow
-in_window v s b = dec_le b s.closes
+in_window v s b = dec_le b s.hours.closes

@@ -6,10 +6,10 @@ use Rattle.stops.specs.declared.stop.Stop.{Stop}
 use Rattle.stops.specs.Refusals.{refused}
 use Rattle.fleet.specs.Loads.{Load, stops_of, held, without}
 use Rattle.vans.specs.declared.van.Van.{Van}
-use Rattle.vans.specs.declared.choice.Choice.{Choice}
 use Rattle.vans.specs.declared.round.Round.{Round}
 use Rattle.vans.specs.declared.vanfleet.VanFleet.{VanFleet}
 use Rattle.vans.specs.Limits.{van_limit}
+use Rattle.vans.specs.Cheapest.{Choice}
 
 -- the stops of a round
 abbrev pub stops_in : Round → List Stop
@@ -39,15 +39,10 @@ abbrev pub Made : List Van → Result VanFleet Refusal → Type 0
 Made vs (Ok f) = (length vs ≤ van_limit) × (vans_of f ≡ vs) × (rounds_of f ≡ cleared vs)
 Made vs (Err e) = (van_limit < length vs) × (refused e ≡ (17, []))
 
--- memory was reserved, or there was none
-abbrev pub Reserved : {X : Type 0} → Result X Refusal → Type 0
-Reserved (Ok m) = Unit {0}
-Reserved (Err e) = refused e ≡ (0, [])
-
 -- the rounds with one more stop where the choice says
 abbrev pub with_stop : List Load → Option Choice → ℕ → Stop → List Load
 with_stop rs None n s = rs
-with_stop rs (Some c) n s = slice_set rs c.van (insert (slice_index_or rs c.van []) c.position ((n, s)))
+with_stop rs (Some c) n s = slice_set rs c.at.van (insert (slice_index_or rs c.at.van []) c.at.position ((n, s)))
 
 -- the rounds without a number, the rest in order
 abbrev pub taken_from : ℕ → List Load → List Load

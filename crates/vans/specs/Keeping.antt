@@ -9,10 +9,9 @@ use Rattle.std.proofs.lemmas.Bool.Decides.{Decides-eqb}
 use Rattle.std.proofs.lemmas.List.{map-append}
 use Rattle.stops.specs.declared.stop.Stop.{Stop}
 use Rattle.fleet.specs.Loads.{Load, held, stops_of, without}
-use Rattle.fleet.proofs.Positions.{false_or}
+use Rattle.std.proofs.lemmas.Bool.{or_parts}
 use Rattle.vans.specs.declared.van.Van.{Van}
-use Rattle.vans.specs.declared.choice.Choice.{Choice}
-use Rattle.vans.specs.Cheapest.{Cheapest, Fits}
+use Rattle.vans.specs.Cheapest.{Choice, Cheapest, Fits}
 use Rattle.vans.specs.Chosen.{chosen}
 use Rattle.vans.specs.Fleets.{cleared, taken_from, with_stop}
 use Rattle.vans.specs.Rounds.{Lawful}
@@ -22,7 +21,7 @@ use Rattle.vans.specs.Uniqueness.{chosen_cheapest}
 use Rattle.vans.specs.Dealing.{placed_lawful, placed_gains, split_mem}
 
 -- what is known of a choice
-at_choice : (vs : List Van) (rs : List Load) (s : Stop) (c : Choice) → chosen vs rs s ≡ Some c → Fits vs rs s c.van c.position
+at_choice : (vs : List Van) (rs : List Load) (s : Stop) (c : Choice) → chosen vs rs s ≡ Some c → Fits vs rs s c.at.van c.at.position
 at_choice vs rs s c e = (subst (λ (o : Option Choice). Cheapest vs rs s o) e (chosen_cheapest vs rs s)).fits
 
 pub place_keeps : (vs : List Van) (rs : List Load) (n : ℕ) (s : Stop) → LawfulRounds vs (bare_rounds rs) → LawfulRounds vs (bare_rounds (with_stop rs (chosen vs rs s) n s))
@@ -30,7 +29,7 @@ place_keeps vs rs n s k = go (chosen vs rs s) (chosen_cheapest vs rs s)
   where
     go : (o : Option Choice) → Cheapest vs rs s o → LawfulRounds vs (bare_rounds (with_stop rs o n s))
     go None h = k
-    go (Some c) h = placed_lawful vs rs c.van c.position (n, s) k h.fits
+    go (Some c) h = placed_lawful vs rs c.at.van c.at.position (n, s) k h.fits
 
 fits_round : (vs : List Van) (rs : List Load) (s : Stop) (w k : ℕ) → Fits vs rs s w k → w < length rs
 fits_round [] [] s w k f = absurd f
@@ -40,7 +39,7 @@ fits_round (v ∷ vs) (r ∷ rs) s zero k f = omega arith
 fits_round (v ∷ vs) (r ∷ rs) s (suc w) k f = omega (arith, fits_round vs rs s w k f)
 
 pub place_gains : (vs : List Van) (rs : List Load) (n : ℕ) (s : Stop) (c : Choice) → chosen vs rs s ≡ Some c → Perm (load_of (with_stop rs (Some c) n s)) ((n, s) ∷ load_of rs)
-place_gains vs rs n s c e = placed_gains rs c.van c.position (n, s) (fits_round vs rs s c.van c.position (at_choice vs rs s c e))
+place_gains vs rs n s c e = placed_gains rs c.at.van c.at.position (n, s) (fits_round vs rs s c.at.van c.at.position (at_choice vs rs s c e))
 
 -- a held number's visit in its round
 Split : ℕ → Load → Load → Type 0
@@ -83,7 +82,7 @@ without_front n (x ∷ k) l h =
 without_rest : (n : ℕ) (k l : Load) → held n k ≡ false → without n (k ++ l) ≡ k ++ without n l
 without_rest n [] l h = refl
 without_rest n (x ∷ k) l h =
-    let q = false_or (x.0 == n) (held n k) h in
+    let q = or_parts (x.0 == n) (held n k) h in
     ap (λ b. cond b (k ++ l) (x ∷ without n (k ++ l))) q.0 ∙ ap (λ (m : Load). x ∷ m) (without_rest n k l q.1)
 
 loses_step : (n : ℕ) (r : Load) (rs : List Load) (b : Bool) → held n r ≡ b → without n (load_of rs) ≡ load_of (taken_from n rs) → without n (r ++ load_of rs) ≡ load_of (cond b (without n r ∷ rs) (r ∷ taken_from n rs))

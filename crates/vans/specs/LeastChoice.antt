@@ -1,34 +1,27 @@
--- The first of the cheapest choices: unique, and what the definition of the cheapest choice says.
-use Rattle.std.specs.Prelude.{◌≡◌, ℕ, zero, suc, ◌<◌, ◌≤◌, List, [], ◌∷◌, length, Some, None, Option, refl}
-use Rattle.std.proofs.Common.{sym, ap, subst, ◌∙◌, arith}
+-- The cheapest choice is the first of the cheapest locations.
+use Rattle.std.specs.Prelude.{◌≡◌, ℕ, zero, suc, ◌<◌, ◌≤◌, ◌⊎◌, List, [], ◌∷◌, length, Some, None, Option, refl}
+use Rattle.std.proofs.Common.{⊎_elim, inl, inr, sym, ap, subst, ◌∙◌, arith}
 use Rattle.std.proofs.Math.Decide.{dec_lt}
 use Rattle.stops.specs.declared.stop.Stop.{Stop}
 use Rattle.fleet.specs.Loads.{Load}
 use Rattle.vans.specs.declared.van.Van.{Van}
-use Rattle.vans.specs.declared.choice.Choice.{Choice}
-use Rattle.vans.specs.Cheapest.{Fits, added_at, Cheapest}
+use Rattle.vans.specs.declared.choice.Location.{Location}
+use Rattle.vans.specs.Better.{Least}
+use Rattle.vans.specs.Cheapest.{Choice, Fits, added_at, Cheapest}
 
--- r is the first of the cheapest (van, position) where P holds, among the vans below n; c is the cost
-abbrev pub LeastOver : (ℕ → ℕ → Type 0) → (ℕ → ℕ → ℕ) → ℕ → Option Choice → Type 0
-LeastOver P c n None = (w k : ℕ) → w < n → P w k → ⊥
-LeastOver P c n (Some b) = (b.van < n) × P b.van b.position × (b.added ≡ c b.van b.position) × ((w k : ℕ) → w < n → P w k → (b.added ≤ c w k) × (w < b.van → b.added < c w k) × (w ≡ b.van → k < b.position → b.added < c w k))
+-- locations are in order of their vans, and then of their positions
+abbrev pub Before : Location → Location → Type 0
+Before x y = (x.van < y.van) ⊎ ((x.van ≡ y.van) × (x.position < y.position))
 
 neither : (a b : ℕ) → (a < b → ⊥) → (b < a → ⊥) → a ≡ b
 neither a b f g = omega arith
 
-same_choice : (a b : Choice) → a.van ≡ b.van → a.position ≡ b.position → a.added ≡ b.added → Some a ≡ Some b
-same_choice a b p q r =
-    ap (λ k. Some (record { van = k; position = a.position; added = a.added })) p ∙ (ap (λ k. Some (record { van = b.van; position = k; added = a.added })) q ∙ ap (λ k. Some (record { van = b.van; position = b.position; added = k })) r)
-
-pub least_unique : (P : ℕ → ℕ → Type 0) (c : ℕ → ℕ → ℕ) (n : ℕ) (a b : Option Choice) → LeastOver P c n a → LeastOver P c n b → a ≡ b
-least_unique P c n None None x y = refl
-least_unique P c n None (Some b) x y = absurd (x b.van b.position y.0 y.1)
-least_unique P c n (Some a) None x y = absurd (y a.van a.position x.0 x.1)
-least_unique P c n (Some a) (Some b) x y =
-    let m = x.3 b.van b.position y.0 y.1 in
-    let k = y.3 a.van a.position x.0 x.1 in
-    let e : a.van ≡ b.van = neither a.van b.van (λ l. omega (arith, m.0, k.1 l, x.2, y.2)) (λ l. omega (arith, k.0, m.1 l, x.2, y.2)) in
-    same_choice a b e (neither a.position b.position (λ l. omega (arith, m.0, k.2 e l, x.2, y.2)) (λ l. omega (arith, k.0, m.2 (sym e) l, x.2, y.2))) (omega (arith, m.0, k.0, x.2, y.2))
+-- of two locations one is the earlier
+pub apart : (x y : Location) → (Before x y → ⊥) → (Before y x → ⊥) → x ≡ y
+apart x y f g =
+    let e : x.van ≡ y.van = neither x.van y.van (λ l. f (inl l)) (λ l. g (inl l)) in
+    let k : x.position ≡ y.position = neither x.position y.position (λ l. f (inr (e, l))) (λ l. g (inr (sym e, l))) in
+    ap (λ n. record { van = n; position = x.position }) e ∙ ap (λ n. record { van = y.van; position = n }) k
 
 -- a position is of some van
 pub fits_van : (vs : List Van) (rs : List Load) (s : Stop) (w k : ℕ) → Fits vs rs s w k → w < length vs
@@ -39,36 +32,40 @@ fits_van (v ∷ vs) (r ∷ rs) s zero k f = omega arith
 fits_van (v ∷ vs) (r ∷ rs) s (suc w) k f = omega (arith, fits_van vs rs s w k f)
 
 module _ (vs : List Van) (rs : List Load) (s : Stop) where
-  -- the first of the cheapest among all vans
-  abbrev pub Leads : Option Choice → Type 0
-  Leads r = LeastOver (Fits vs rs s) (added_at vs rs s) (length vs) r
+  -- a location where s may lawfully stand
+  abbrev pub Lawfully : Location → Type 0
+  Lawfully t = Fits vs rs s t.van t.position
 
-  pub leads_cheapest : (r : Option Choice) → Leads r → Cheapest vs rs s r
-  leads_cheapest None h = λ w k f. h w k (fits_van vs rs s w k f) f
-  leads_cheapest (Some b) h =
-      let m : (w k : ℕ) → Fits vs rs s w k → (b.added ≤ added_at vs rs s w k) × (w < b.van → b.added < added_at vs rs s w k) × (w ≡ b.van → k < b.position → b.added < added_at vs rs s w k) = λ w k f. h.3 w k (fits_van vs rs s w k f) f in
+  -- the travel that it adds there
+  abbrev pub cost : Location → ℕ
+  cost t = added_at vs rs s t.van t.position
+
+  pub least_cheapest : (r : Option Choice) → Least Lawfully cost Before r → Cheapest vs rs s r
+  least_cheapest None h = λ w k f. h (record { van = w; position = k }) f
+  least_cheapest (Some b) h =
+      let m : (w k : ℕ) → Fits vs rs s w k → (b.added ≤ added_at vs rs s w k) × (Before (record { van = w; position = k }) b.at → b.added < added_at vs rs s w k) = λ w k f. h.2 (record { van = w; position = k }) f in
       record {
-        fits = h.1;
-        added = h.2;
+        fits = h.0;
+        added = h.1;
         least = λ w k f. (m w k f).0;
-        lowest = λ w k f e. elim (dec_lt w b.van) [ yes l ↦ absurd (omega (arith, e, (m w k f).1 l)) | no l ↦ omega arith ];
-        earliest = λ k f e. elim (dec_lt k b.position) [ yes l ↦ absurd (omega (arith, e, (m b.van k f).2 refl l)) | no l ↦ omega arith ];
+        lowest = λ w k f e. elim (dec_lt w b.at.van) [ yes l ↦ absurd (omega (arith, e, (m w k f).1 (inl l))) | no l ↦ omega arith ];
+        earliest = λ k f e. elim (dec_lt k b.at.position) [ yes l ↦ absurd (omega (arith, e, (m b.at.van k f).1 (inr (refl, l)))) | no l ↦ omega arith ];
       }
 
-  pub cheapest_leads : (r : Option Choice) → Cheapest vs rs s r → Leads r
-  cheapest_leads None h = λ w k l f. h w k f
-  cheapest_leads (Some b) h = (
-    fits_van vs rs s b.van b.position h.fits,
+  pub cheapest_least : (r : Option Choice) → Cheapest vs rs s r → Least Lawfully cost Before r
+  cheapest_least None h = λ t f. h t.van t.position f
+  cheapest_least (Some b) h = (
     h.fits,
     h.added,
-    λ w k _ f. (
-      h.least w k f,
-      (λ l. elim (dec_lt b.added (added_at vs rs s w k)) [ yes z ↦ z | no z ↦ absurd (omega (arith, h.lowest w k f (omega (arith, h.least w k f)))) ]),
-      (λ e l. elim (dec_lt b.added (added_at vs rs s w k)) [
+    λ t f. (
+      h.least t.van t.position f,
+      λ e. elim (dec_lt b.added (cost t)) [
         | yes z ↦ z
-        | no z ↦ absurd (let g : Fits vs rs s b.van k = subst (λ x. Fits vs rs s x k) e f in
-            let q : added_at vs rs s b.van k ≡ added_at vs rs s w k = ap (λ x. added_at vs rs s x k) (sym e) in
-            omega (arith, h.earliest k g (omega (arith, h.least w k f))))
-      ]),
+        | no z ↦ absurd (let q : cost t ≡ b.added = omega (arith, h.least t.van t.position f) in
+            ⊎_elim
+            (λ l. omega (arith, h.lowest t.van t.position f q))
+            (λ w. omega (arith, w.1, h.earliest t.position (subst (λ n. Fits vs rs s n t.position) w.0 f) (subst (λ n. added_at vs rs s n t.position ≡ b.added) w.0 q)))
+            e)
+      ],
     ),
   )

@@ -2,6 +2,7 @@ pub mod Limits
 pub mod Vans
 pub mod Figures
 pub mod Rounds
+pub mod Better
 pub mod Insertions
 pub mod Rule
 pub mod Cheapest
@@ -18,7 +19,7 @@ pub mod OnTime
 pub mod Dealing
 pub mod Keeping
 pub mod Uniqueness
-pub mod LeastPosition
+pub mod Least
 pub mod LeastChoice
 pub mod Visiting
 pub mod Locating

@@ -3,7 +3,8 @@ use Rattle.std.specs.Prelude.{◌≡◌, ℕ, zero, suc, ◌+◌, ◌<◌, true,
 use Rattle.std.proofs.Common.{sym, ap, subst, ◌∙◌, add-zero, add-one, arith}
 use Rattle.stops.specs.Places.{depot}
 use Rattle.fleet.specs.Loads.{Load, held, without}
-use Rattle.fleet.proofs.Positions.{false_or, held_append}
+use Rattle.fleet.proofs.Positions.{held_append}
+use Rattle.std.proofs.lemmas.Bool.{or_parts}
 use Rattle.vans.specs.declared.round.Round.{Round}
 use Rattle.vans.specs.Rounds.{begins}
 use Rattle.vans.specs.Rule.{load_of}
@@ -13,7 +14,7 @@ use Rattle.vans.specs.Locations.{begin_at}
 
 -- a number that is in neither part
 pub in_neither : (n : ℕ) (r l : Load) → held n (r ++ l) ≡ false → (held n r ≡ false) × (held n l ≡ false)
-in_neither n r l h = false_or (held n r) (held n l) (sym (held_append n r l) ∙ h)
+in_neither n r l h = or_parts (held n r) (held n l) (sym (held_append n r l) ∙ h)
 
 -- a number of one round, and of none before it
 pub found_in : (n : ℕ) (rs : List Load) (i : ℕ) → i < length rs → held n (load_of (take i rs)) ≡ false → held n (slice_index_or rs i []) ≡ true → (held n (load_of rs) ≡ true) × (slice_set rs i (without n (slice_index_or rs i [])) ≡ taken_from n rs)

@@ -5,9 +5,9 @@ use Rattle.fleet.specs.declared.visit.Visit.{Visit}
 use Rattle.fleet.specs.Loads.{Load, stops_of, held, index}
 use Rattle.fleet.specs.Meaning.{Meaning}
 use Rattle.vans.specs.declared.van.Van.{Van}
-use Rattle.vans.specs.declared.choice.Choice.{Choice}
 use Rattle.vans.specs.Rounds.{begins}
 use Rattle.vans.specs.Rule.{Rule, load_of}
+use Rattle.vans.specs.Cheapest.{Choice}
 use Rattle.vans.specs.Chosen.{chosen}
 use Rattle.vans.specs.Fleets.{cleared, with_stop, taken_from}
 

@@ -1,7 +1,6 @@
 -- Rounds on time: a stop less, a stop more.
-use Rattle.std.specs.Prelude.{ℕ, ◌+◌, ◌≤◌, Bool, List, [], ◌∷◌, ◌++◌, Decides}
+use Rattle.std.specs.Prelude.{ℕ, ◌+◌, ◌≤◌, List, [], ◌∷◌, ◌++◌}
 use Rattle.std.proofs.Common.{arith}
-use Rattle.std.proofs.lemmas.Bool.Decides.{Decides-like}
 use Rattle.stops.specs.declared.place.Place.{Place}
 use Rattle.stops.specs.declared.stop.Stop.{Stop}
 use Rattle.stops.specs.Places.{depot}
@@ -66,9 +65,8 @@ module _ (v : Van) where
   pub on_time_admits : (s : Stop) (l : List Stop) (p : Place) (t : ℕ) → OnTime v p t (s ∷ l) → Insertable v p t s (next_place l) (latest v l)
   on_time_admits s l p t g = (g.0, by_latest l _ _ g.1)
 
-  pub insertion_exact : (s : Stop) (k l : List Stop) (p : Place) (t : ℕ) (r : Bool) → OnTime v p t (k ++ l) → Decides r (Insertable v (last_place p k) (leaving v p t k) s (next_place l) (latest v l)) → Decides r (OnTime v p t (k ++ s ∷ l))
-  insertion_exact s k l p t r g d =
-      Decides-like r
-      (λ a. front_on_time k l (s ∷ l) p t g (admits_on_time s l _ _ (rest_on_time k l p t g) a))
-      (λ h. on_time_admits s l _ _ (rest_on_time k (s ∷ l) p t h))
-      d
+  pub insertion_exact : (s : Stop) (k l : List Stop) (p : Place) (t : ℕ) → OnTime v p t (k ++ l) → (Insertable v (last_place p k) (leaving v p t k) s (next_place l) (latest v l) → OnTime v p t (k ++ s ∷ l)) × (OnTime v p t (k ++ s ∷ l) → Insertable v (last_place p k) (leaving v p t k) s (next_place l) (latest v l))
+  insertion_exact s k l p t g = (
+    λ a. front_on_time k l (s ∷ l) p t g (admits_on_time s l _ _ (rest_on_time k l p t g) a),
+    λ h. on_time_admits s l _ _ (rest_on_time k (s ∷ l) p t h),
+  )

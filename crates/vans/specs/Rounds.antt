@@ -9,7 +9,7 @@ use Rattle.vans.specs.Figures.{travel, service, InWindow}
 
 -- the begin of a stop, for a van that leaves the place p at minute t: the later of arrival and open
 unfoldable pub begin : Van → Place → ℕ → Stop → ℕ
-begin v p t s = max (t + travel v p s.place) s.opens
+begin v p t s = max (t + travel v p s.place) s.hours.opens
 
 -- a van that leaves the place p at minute t begins each of these stops in its window and is back at the depot by its end
 abbrev pub OnTime : Van → Place → ℕ → List Stop → Type 0

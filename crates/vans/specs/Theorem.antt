@@ -3,9 +3,8 @@ use Rattle.std.specs.Prelude.{◌≡◌, ℕ, List, ◌∷◌, ◌++◌, None, O
 use Rattle.stops.specs.declared.stop.Stop.{Stop}
 use Rattle.fleet.specs.Loads.{Load}
 use Rattle.vans.specs.declared.van.Van.{Van}
-use Rattle.vans.specs.declared.choice.Choice.{Choice}
 use Rattle.vans.specs.Rounds.{Lawful}
-use Rattle.vans.specs.Cheapest.{Fits, Cheapest}
+use Rattle.vans.specs.Cheapest.{Choice, Fits, Cheapest}
 use Rattle.vans.specs.Chosen.{chosen}
 use Rattle.vans.specs.Meaning.{van_meaning}
 

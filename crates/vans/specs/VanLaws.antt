@@ -9,7 +9,7 @@ use Rattle.fleet.specs.Loads.{Load, stops_of, without}
 use Rattle.fleet.specs.Orders.{map_perm}
 use Rattle.fleet.specs.Lawful.{Core, laws_from}
 use Rattle.vans.specs.declared.van.Van.{Van}
-use Rattle.vans.specs.declared.choice.Choice.{Choice}
+use Rattle.vans.specs.Cheapest.{Choice}
 use Rattle.vans.specs.Chosen.{chosen}
 use Rattle.vans.specs.Fleets.{cleared, with_stop}
 use Rattle.vans.specs.Meaning.{objection_of, van_meaning}

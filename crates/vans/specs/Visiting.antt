@@ -43,11 +43,11 @@ found n s (p ∷ l) o (Memᴰ.tail m) =
     (λ e. absurd (omega (arith, times_here p l n e, mem_times n s l m)))
     (λ e. found n s l (omega (arith, times_there p l n e)) m)
 
-here : (v : Van) (r : Load) (n : ℕ) (s : Stop) → Lawful v (stops_of r) → times n r ≤ 1 → Memᴰ (n, s) r → (s.opens ≤ begin_of v r n) × (begin_of v r n ≤ s.closes)
+here : (v : Van) (r : Load) (n : ℕ) (s : Stop) → Lawful v (stops_of r) → times n r ≤ 1 → Memᴰ (n, s) r → (s.hours.opens ≤ begin_of v r n) × (begin_of v r n ≤ s.hours.closes)
 unfolding Found
 here v r n s w o m =
     let f = found n s r o m in
-    subst (λ (x : Stop). (x.opens ≤ begin_of v r n) × (begin_of v r n ≤ x.closes)) (f.1 s) (begin_within v (stops_of r) (index n r) s f.0 w.timely)
+    subst (λ (x : Stop). (x.hours.opens ≤ begin_of v r n) × (begin_of v r n ≤ x.hours.closes)) (f.1 s) (begin_within v (stops_of r) (index n r) s f.0 w.timely)
 
 times_append : (n : ℕ) (k l : Load) → times n (k ++ l) ≡ times n k + times n l
 times_append n k l = sum_by-append (λ (p : ℕ × Stop). cond (p.0 == n) 1 0) k l

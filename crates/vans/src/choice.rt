@@ -1,76 +1,46 @@
 ghost use Rattle.std.specs.Prelude.{◌≡◌};
-ghost use Rattle.vans.specs.Insertions.{better, outdone};
+ghost use Rattle.vans.specs.Better.{better, moved};
 
-// A position of a round for one more stop, and the travel that it adds there.
+// Where one more stop may go, and the travel that it adds there.
 #[derive(Clone, Copy)]
-pub struct Insertion {
-    pub position: usize,
+pub struct Insertion<P> {
+    pub at: P,
     pub added: u16,
 }
 
-// A van, a position of its round for one more stop, and the travel that it adds there.
-#[derive(Clone, Copy)]
-pub struct Choice {
-    pub van: usize,
-    pub position: usize,
-    pub added: u16,
-}
-
-// Where a number is held: a van, and a position of its round.
+// A van, and a position of its round.
 #[derive(Clone, Copy)]
 pub struct Location {
     pub van: usize,
     pub position: usize,
 }
 
-impl Insertion {
-    // The better of the best so far and a further position, which must fit and add less.
+impl<P: Copy> Insertion<P> {
+    // The better of the best so far and a later one, which must add less.
     pub(crate) fn better(
-        best: Option<Insertion>,
-        fits: bool,
-        position: usize,
-        added: u16,
-    ) -> Option<Insertion>
-        ensures { result ≡ better best fits position added }
+        best: Option<Insertion<P>>,
+        later: Option<Insertion<P>>,
+    ) -> Option<Insertion<P>>
+        ensures { result ≡ better best later }
     {
-        if !fits {
-            return best;
-        }
-        match best {
-            Some(old) => if added < old.added {
-                Some(Insertion { position, added })
-            } else {
-                Some(old)
-            },
-            None => Some(Insertion { position, added }),
+        match (best, later) {
+            (Some(old), Some(new)) => if new.added < old.added { later } else { best },
+            _ => best.or(later),
         }
     }
 }
 
-impl Choice {
-    // The better of the best so far and a later van's best position, which must add less.
-    pub(crate) fn better(
-        best: Option<Choice>,
-        van: usize,
-        insertion: Option<Insertion>,
-    ) -> Option<Choice>
-        ensures { result ≡ outdone best van insertion }
+impl Insertion<usize> {
+    // This position in the round of a van.
+    pub(crate) fn of_van(self, van: usize) -> Insertion<Location>
+        ensures { result ≡ moved (λ k. record { van = van; position = k }) self }
     {
-        let Some(new) = insertion else {
-            return best;
-        };
-        let choice = Choice {
-            van,
-            position: new.position,
-            added: new.added,
-        };
-        match best {
-            Some(old) => if choice.added < old.added {
-                Some(choice)
-            } else {
-                Some(old)
+        Insertion {
+            at: Location {
+                van,
+                position: self.at,
             },
-            None => Some(choice),
+            added: self.added,
         }
     }
 }

@@ -1,10 +1,9 @@
 #![tactic(auto)]
 
-mod blank;
 mod choice;
+mod leg;
 pub mod limits;
 pub mod memory;
 mod round;
-mod tallies;
 pub mod van;
 pub mod vanfleet;

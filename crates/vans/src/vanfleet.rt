@@ -11,6 +11,5 @@ pub struct VanFleet {
 }
 
 pub mod calls;
-mod changes;
 pub mod makes;
 mod searches;

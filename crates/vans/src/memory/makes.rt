@@ -1,21 +1,17 @@
-ghost use Rattle.vans.specs.Fleets.{Reserved};
-
-use crate::blank::Blank;
 use crate::limits::VANS;
 use crate::memory::Memory;
-use std::alloc::Global;
-use stops::refusal::Refusal;
+use std::alloc::{AllocError, Global};
+use stops::blank::Blank;
 
 impl Memory {
-    // Memory for as many vans as a fleet can have. Refused only for want of memory.
-    pub fn reserve(heap: Global) -> Result<Memory, Refusal>
-        ensures { Reserved result }
-    {
-        let rounds = Vec::with_capacity(heap, VANS)?;
-        let mut blanks = Vec::with_capacity(heap, VANS)?;
+    // Memory for as many vans as a fleet can have; it fails only where there is none.
+    pub fn reserve(heap: Global) -> Result<Memory, AllocError> {
+        let rounds = Blank::reserve(heap)?;
+        let mut visits = Vec::with_capacity(heap, VANS)?;
+        // a step so many times, with no index
         for _ in 0..VANS {
-            blanks.push_reserved(Blank::reserve(heap)?);
+            visits.push_reserved(Blank::reserve(heap)?);
         }
-        Ok(Memory { blanks, rounds })
+        Ok(Memory { rounds, visits })
     }
 }

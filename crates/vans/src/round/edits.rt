@@ -3,20 +3,21 @@ ghost use Rattle.std.specs.List.{insert, remove};
 ghost use Rattle.vans.specs.Rounds.{Lawful};
 ghost use Rattle.vans.specs.Fleets.{stops_in};
 
-use crate::blank::Blank;
+use crate::limits::STOPS;
 use crate::round::Round;
 use crate::van::Van;
+use stops::blank::Blank;
 use stops::stop::Stop;
 
 impl Round {
     // A van's empty round.
-    pub(crate) fn new(van: Van, blank: Blank) -> Round
+    pub(crate) fn new(van: Van, visits: Blank<(u16, Stop), STOPS>) -> Round
         ensures van { result.van ≡ van }
         ensures visits { result.visits.items ≡ [] }
     {
         Round {
             van,
-            visits: blank.memory(),
+            visits: visits.into_list(),
         }
     }
 

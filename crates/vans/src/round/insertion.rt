@@ -5,9 +5,9 @@ ghost use Rattle.vans.specs.Insertions.{latest, Best};
 ghost use Rattle.vans.specs.Fleets.{stops_in};
 
 use crate::choice::Insertion;
-use crate::limits::{POSITIONS, STOPS};
+use crate::leg::Arrival;
+use crate::limits::STOPS;
 use crate::round::Round;
-use stops::place::Place;
 use stops::stop::Stop;
 
 impl Round {
@@ -18,41 +18,43 @@ impl Round {
         self.visits.len() < STOPS && self.units() + stop.units <= self.van.limit
     }
 
-    // The backward pass: for each position the latest begin that leaves the rest on time; last of all, the van's end.
-    fn latest_begins(&self) -> [u16; POSITIONS]
-        ensures { (k : ℕ) → k ≤ vec_len self.now.visits → slice_index result k ≡ latest self.now.van (drop k (stops_in self.now)) }
+    // The backward pass: for each stop the latest begin that leaves the rest on time.
+    fn latest_begins(&self) -> [u16; STOPS]
+        ensures { (k : ℕ) → k < vec_len self.now.visits → slice_index result k ≡ latest self.now.van (drop k (stops_in self.now)) }
     {
-        let mut latest = [self.van.end; POSITIONS];
-        for i in (0..self.visits.len()).rev() {
-            let next = self.next_place(i + 1);
-            latest[i] = self.van.latest_begin(&self.stop(i), &next, latest[i + 1]);
+        let mut next = self.van.arrival();
+        let mut latest = [0; STOPS];
+        for (i, (_, stop)) in self.visits.iter().enumerate().rev() {
+            next = self.van.before(stop, &next);
+            latest[i] = next.by;
         }
         latest
     }
 
     // The cheapest lawful position for a stop. The forward pass tests each in constant time.
-    pub(crate) fn cheapest(&self, stop: &Stop) -> Option<Insertion>
+    pub(crate) fn cheapest(&self, stop: &Stop) -> Option<Insertion<usize>>
         ensures { Best self.now.van (stops_in self.now) stop.now result }
     {
         if !self.has_room(stop) {
             return None;
         }
-        let len = self.visits.len();
         let latest = self.latest_begins();
-        let mut from = Place::depot();
-        let mut leave = self.van.start;
+        let mut leave = self.van.departure();
         let mut best = None;
-        for i in 0..len {
-            let to = self.stop(i);
-            let fits = self
-                .van
-                .insertable(&from, leave, stop, &to.place, latest[i]);
-            best = Insertion::better(best, fits, i, self.van.detour(&from, stop, &to.place));
-            leave = self.van.begin(&from, leave, &to) + self.van.service(&to);
-            from = to.place;
+        for (i, visit) in self.visits.iter().enumerate() {
+            let next = Arrival {
+                to: visit.1.place,
+                by: latest[i],
+            };
+            // this comes first, so that the drive to the next stop is computed once
+            let left = self.van.after(&leave, &visit.1);
+            best = Insertion::better(best, self.van.insertion(i, &leave, stop, &next));
+            leave = left;
         }
-        let depot = Place::depot();
-        let fits = self.van.insertable(&from, leave, stop, &depot, latest[len]);
-        Insertion::better(best, fits, len, self.van.detour(&from, stop, &depot))
+        let end = self.visits.len();
+        Insertion::better(
+            best,
+            self.van.insertion(end, &leave, stop, &self.van.arrival()),
+        )
     }
 }

@@ -15,6 +15,7 @@ impl Van {
         if limit < 1 || limit > LOAD || start > end || end > LAST_MINUTE {
             return Err(Refusal::OutOfRange);
         }
+        // in range, and `try_from` is not const
         Ok(Van {
             limit: limit as u16,
             start: start as u16,

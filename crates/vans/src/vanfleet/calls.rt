@@ -5,7 +5,6 @@ ghost use Rattle.vans.specs.Fleets.{vans_of, rounds_of};
 ghost use Rattle.vans.specs.Meaning.{van_meaning};
 ghost use Rattle.vans.specs.VanLaws.{van_laws};
 
-use crate::tallies::joined;
 use crate::vanfleet::VanFleet;
 use fleet::interface::{Fleet, Routed};
 use fleet::tally::Tally;
@@ -28,45 +27,38 @@ impl Fleet for VanFleet {
     ghost lawful = { van_laws };
 
     fn clear(&mut self) {
-        self.clear_rounds();
+        for round in self.rounds.iter_mut() {
+            round.clear();
+        }
     }
 
     fn check(&self, stop: &Stop) -> Option<u8> {
-        match self.cheapest(stop) {
-            Some(_) => None,
-            None => Some(0),
-        }
+        self.cheapest(stop).is_none().then_some(0)
     }
 
     fn holds(&self, number: u16) -> bool {
-        match self.find(number) {
-            Some(_) => true,
-            None => false,
-        }
+        self.find(number).is_some()
     }
 
     fn place(&mut self, number: u16, stop: &Stop) -> Result<(), Refusal> {
         if self.holds(number) {
             return Err(Refusal::NumberHeld);
         }
-        match self.put(number, *stop) {
-            Some(_) => Ok(()),
-            None => Err(Refusal::NoRoom(0)),
-        }
+        let best = self.cheapest(stop).ok_or(Refusal::NoRoom(0))?;
+        self.rounds[best.at.van].insert(best.at.position, (number, *stop));
+        Ok(())
     }
 
     fn remove(&mut self, number: u16) -> Result<(), Refusal> {
-        if self.take_out(number) {
-            Ok(())
-        } else {
-            Err(Refusal::NumberNotHeld)
-        }
+        let found = self.find(number).ok_or(Refusal::NumberNotHeld)?;
+        self.rounds[found.van].remove(found.position);
+        Ok(())
     }
 
     fn tally(&self, slot: u8) -> Tally {
         let mut sum = Tally::none();
-        for i in 0..self.rounds.len() {
-            sum = joined(sum, self.rounds[i].tally(slot));
+        for round in &self.rounds {
+            sum = sum.saturating_add(round.tally(slot));
         }
         sum
     }
@@ -77,12 +69,10 @@ impl Routed for VanFleet {
     ghost always = { refl };
 
     fn visit(&self, number: u16) -> Option<Visit> {
-        match self.find(number) {
-            Some(found) => Some(Visit {
-                van: found.van as u8,
-                minute: self.rounds[found.van].begin(found.position),
-            }),
-            None => None,
-        }
+        let found = self.find(number)?;
+        Some(Visit {
+            van: found.van as u8,
+            minute: self.rounds[found.van].begin(found.position),
+        })
     }
 }

@@ -6,19 +6,19 @@ ghost use Rattle.vans.specs.Chosen.{chosen};
 ghost use Rattle.vans.specs.Fleets.{vans_of, rounds_of};
 ghost use Rattle.vans.specs.Locations.{HeldAt};
 
-use crate::choice::{Choice, Location};
+use crate::choice::{Insertion, Location};
 use crate::vanfleet::VanFleet;
 use stops::stop::Stop;
 
 impl VanFleet {
     // The cheapest lawful position for a stop over all vans.
-    pub(crate) fn cheapest(&self, stop: &Stop) -> Option<Choice>
+    pub(crate) fn cheapest(&self, stop: &Stop) -> Option<Insertion<Location>>
         ensures value { result ≡ chosen (vans_of self.now) (rounds_of self.now) stop.now }
         ensures cheapest { Cheapest (vans_of self.now) (rounds_of self.now) stop.now result }
     {
         let mut best = None;
-        for i in 0..self.rounds.len() {
-            best = Choice::better(best, i, self.rounds[i].cheapest(stop));
+        for (van, round) in self.rounds.iter().enumerate() {
+            best = Insertion::better(best, round.cheapest(stop).map(|found| found.of_van(van)));
         }
         best
     }
@@ -27,8 +27,8 @@ impl VanFleet {
     pub(crate) fn find(&self, number: u16) -> Option<Location>
         ensures { MatchOption result (held number (load_of (rounds_of self.now)) ≡ false) (HeldAt number (vans_of self.now) (rounds_of self.now)) }
     {
-        for van in 0..self.rounds.len() {
-            if let Some(position) = self.rounds[van].find(number) {
+        for (van, round) in self.rounds.iter().enumerate() {
+            if let Some(position) = round.find(number) {
                 return Some(Location { van, position });
             }
         }

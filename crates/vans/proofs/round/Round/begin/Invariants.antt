@@ -1,13 +1,5 @@
-use Rattle.std.proofs.Common.{◌≡◌, ◌≤◌, take}
-use Rattle.stops.specs.Limits.{last_minute}
-use Rattle.stops.specs.Places.{depot}
-use Rattle.vans.specs.Fleets.{stops_in}
-use Rattle.vans.specs.Insertions.{leaving}
-use Rattle.vans.specs.Rounds.{last_place}
+use Rattle.vans.proofs.RoundSearch.{Left}
 use Rattle.vans.proofs.round.Round.begin.Given as goal
 
-abbrev pub invariant-loop-i : goal.invariant-loop-i
-invariant-loop-i l =
-    (l.leave ≤ last_minute)
-    × (l.from ≡ last_place depot (take l.i (stops_in l.self)))
-    × (l.leave ≡ leaving l.self.van depot l.self.van.start (take l.i (stops_in l.self)))
+abbrev pub invariant-loop-stop : goal.invariant-loop-stop
+invariant-loop-stop l = Left l.self l.stop-index l.leave

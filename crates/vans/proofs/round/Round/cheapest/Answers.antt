@@ -1,37 +1,32 @@
-use Rattle.std.proofs.Common.{◌≡◌, ◌+◌, ◌<◌, length, drop, vec_len, sym, ap, ◌∙◌, subst, arith}
-use Rattle.std.proofs.lemmas.Bool.Decides.{not_from_Decides}
-use Rattle.stops.specs.declared.stop.Stop.{Stop}
+use Rattle.std.proofs.Common.{◌≡◌, ◌<◌, ◌+◌, length, get_or, vec_items, subst, arith}
 use Rattle.vans.specs.Fleets.{stops_in}
-use Rattle.vans.specs.Insertions.{better, latest}
-use Rattle.vans.specs.RoundFacts.{round_length, round_on_time, next_more, next_all}
-use Rattle.vans.proofs.RoundSearch.{no_room_best, last_place_more, leaving_more, leaving_day, turn, finish}
-use Rattle.vans.proofs.RoundSearch.{Searched}
+use Rattle.vans.specs.RoundFacts.{round_length}
+use Rattle.vans.proofs.RoundSearch.{Left, Searched, left_day, left_more, arrives, arrives_last, turn, finish}
 use Rattle.vans.proofs.round.Round.cheapest.Goals as goal
+
+pub after-left-requires : goal.after-left-requires
+after-left-requires c = left_day c.args.self.now c.loop-i.i c.visit-item.result c.loop-i.leave (omega (arith, c.args.self.now.visits.ok.0)) (cc) c.loop-i.invariant.0
 
 pub loop-i-preserved : goal.loop-i-preserved
 loop-i-preserved c =
-    let h : c.loop-i.i < length (stops_in c.args.self.now) = omega (arith, round_length c.args.self.now) in
-    let inv = c.loop-i.invariant in
-    let e = leaving_more c.args.self.now.van (stops_in c.args.self.now) c.loop-i.i c.stop-to.result c.loop-i.from c.loop-i.leave h c.stop-to.ensures inv.1 inv.2 in
-    let z = ap (λ (s : Stop). s.place) (c.stop-to.ensures c.stop-to.result) ∙ sym (next_more (stops_in c.args.self.now) c.loop-i.i c.stop-to.result h) in (
-      omega (arith, e, c.begin.ensures.value, c.service.ensures.value, leaving_day c.args.self.now.van (stops_in c.args.self.now) c.args.stop.now (round_on_time c.args.self.now) (c.loop-i.i + 1)),
-      last_place_more (stops_in c.args.self.now) c.loop-i.i c.stop-to.result h c.stop-to.ensures,
-      omega (arith, e, c.begin.ensures.value, c.service.ensures.value),
-      turn c.args.self.now.van (stops_in c.args.self.now) c.args.stop.now (round_on_time c.args.self.now) c.loop-i.i c.loop-i.from c.stop-to.result.place c.loop-i.leave _ c.detour.result c.loop-i.best c.better-best.result c.insertable-fits.result inv.1 inv.2 z (c.latest_begins-latest.ensures c.loop-i.i (omega arith)) c.detour.ensures c.insertable-fits.ensures c.better-best.ensures inv.3,
+    let r = c.args.self.now in
+    let h : c.loop-i.i < length (vec_items r.visits) = omega (arith, r.visits.ok.0) in
+    let e : c.visit-item.result ≡ get_or (vec_items r.visits) c.loop-i.i c.visit-item.result = cc in (
+      left_more r c.loop-i.i c.visit-item.result c.loop-i.leave h e c.loop-i.invariant.0 c.after-left.result c.after-left.ensures.from c.after-left.ensures.minute,
+      turn r c.args.stop.now c.loop-i.i c.loop-i.leave _ c.loop-i.best c.insertion.result c.better-best.result c.loop-i.invariant.0
+          (arrives r c.loop-i.i c.visit-item.result c.loop-i.leave h e c.loop-i.invariant.0 _ (c.latest_begins-latest.ensures c.loop-i.i (omega arith)))
+          c.insertion.ensures c.better-best.ensures c.loop-i.invariant.1,
     )
-
-pub returns-then-not-has_room : goal.returns-then-not-has_room
-returns-then-not-has_room c =
-    no_room_best c.args.self.now.van (stops_in c.args.self.now) c.args.stop.now (vec_len c.args.self.now.visits) (round_length c.args.self.now) (not_from_Decides c.has_room.result c.has_room.ensures c.if-not-has_room.true)
 
 pub returns : goal.returns
 returns c =
-    let n : length (stops_in c.args.self.now) ≡ c.loop-i.i = omega (arith, round_length c.args.self.now) in
+    let r = c.args.self.now in
     let room = c.has_room.ensures.0 c.if-not-has_room.false in
-    let i : c.len-len.result ≡ c.loop-i.i = omega arith in
-    let inv = c.loop-i.invariant in
-    let z = c.depot-depot.ensures ∙ sym (next_all (stops_in c.args.self.now) c.loop-i.i (omega arith)) in
-    let b = subst (λ k. c.better.result ≡ better c.loop-i.best c.insertable-fits-2.result k c.detour-2.result) i c.better.ensures in
-    let y = c.latest_begins-latest.ensures c.len-len.result (omega arith) ∙ ap (λ k. latest c.args.self.now.van (drop k (stops_in c.args.self.now))) i in
-    let t = turn c.args.self.now.van (stops_in c.args.self.now) c.args.stop.now (round_on_time c.args.self.now) c.loop-i.i c.loop-i.from c.depot-depot.result c.loop-i.leave _ c.detour-2.result c.loop-i.best c.better.result c.insertable-fits-2.result inv.1 inv.2 z y c.detour-2.ensures c.insertable-fits-2.ensures b inv.3 in
-    finish c.args.self.now.van (stops_in c.args.self.now) c.args.stop.now (round_on_time c.args.self.now) c.better.result (omega (arith, room.0)) room.1 (subst (λ k. Searched c.args.self.now.van (stops_in c.args.self.now) c.args.stop.now (k + 1) c.better.result) (sym n) t)
+    let n : c.loop-i.i ≡ c.len-end.result = omega arith in
+    let m : c.len-end.result ≡ length (stops_in r) = omega (arith, round_length r) in
+    let t = turn r c.args.stop.now c.len-end.result c.loop-i.leave c.arrival.result c.loop-i.best c.insertion-2.result c.better.result
+    (subst (λ k. Left r k c.loop-i.leave) n c.loop-i.invariant.0)
+    (arrives_last r c.len-end.result c.arrival.result (omega arith) c.arrival.ensures)
+    c.insertion-2.ensures c.better.ensures
+    (subst (λ k. Searched r.van (stops_in r) c.args.stop.now k c.loop-i.best) n c.loop-i.invariant.1) in
+    finish r.van (stops_in r) c.args.stop.now c.better.result (omega (arith, room.0)) room.1 (subst (λ k. Searched r.van (stops_in r) c.args.stop.now (k + 1) c.better.result) m t)

@@ -1,4 +1,4 @@
-use Rattle.std.proofs.Common.{◌≡◌, ℕ, Bool, true, cond, vec_items, refl, ap, ◌∙◌, arith}
+use Rattle.std.proofs.Common.{◌≡◌, ℕ, Bool, true, cond, vec_items, ap, ◌∙◌, arith}
 use Rattle.std.proofs.lemmas.List.{length-map}
 use Rattle.stops.specs.declared.stop.Stop.{Stop}
 use Rattle.fleet.specs.Loads.{Load}
@@ -17,8 +17,3 @@ invariant_of-self c =
     let w = visits_inserted r.van (vec_items r.visits) (vec_items c.insert.new.self) c.args.position c.args.visit (done _ _ _ _ ok e.items) c.requires.lawful in
     let n = length-map (vec_items c.insert.new.self) (λ (x : ℕ × Stop). x.1) in
     record { short = omega (arith, n, w.short, c.insert.new.self.ok.0); light = w.light; timely = ∣ w.timely ∣₁; room = omega (arith, e.capacity, r.room) }
-
-pub returns : goal.returns
-returns c =
-    let e = c.insert.ensures in
-    record { van = refl; visits = done _ _ _ _ (e.succeeds (room_inserted c.args.self.now c.args.position c.args.visit.1 c.requires.within c.requires.lawful)) e.items }

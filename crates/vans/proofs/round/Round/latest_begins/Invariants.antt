@@ -1,9 +1,9 @@
-use Rattle.std.proofs.Common.{◌≡◌, ℕ, ◌+◌, ◌≤◌, length, get_or, drop, vec_len}
-use Rattle.vans.specs.Fleets.{stops_in}
-use Rattle.vans.specs.Limits.{stop_limit}
-use Rattle.vans.specs.Insertions.{latest}
+use Rattle.std.specs.Slice.Iter.{iter_rest}
+use Rattle.std.specs.Iterator.Adapters.{rev_source, enumerate_source, enumerate_count}
+use Rattle.vans.proofs.Backward.{Passed}
 use Rattle.vans.proofs.round.Round.latest_begins.Given as goal
 
 abbrev pub invariant-loop-i : goal.invariant-loop-i
 invariant-loop-i l =
-    ((k : ℕ) → l.i ≤ k → k ≤ vec_len l.self.visits → get_or l.latest k 0 ≡ latest l.self.van (drop k (stops_in l.self))) × (length l.latest ≡ stop_limit + 1)
+    let s = rev_source l.i-iterator in
+    Passed l.self (enumerate_count s) (iter_rest (enumerate_source s)) l.next l.latest
