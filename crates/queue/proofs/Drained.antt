@@ -1,18 +1,19 @@
 -- Taking the least entry off until nothing is left: what was taken is in order, and it is all that was held.
-use Rattle.std.proofs.Common.{◌≡◌, ℕ, ◌+◌, ◌≤◌, List, [], ◌∷◌, ◌++◌, length, take, drop, set, Some, None, Ordering, sym, refl, ap, ◌∙◌, subst, append_assoc, append-nil, arith, drop-drop, drop-set-lt}
+use Rattle.std.proofs.Common.{◌≡◌, ℕ, ◌+◌, ◌<◌, ◌≤◌, List, [], ◌∷◌, ◌++◌, length, take, drop, set, Some, None, Ordering, sym, refl, ap, ◌∙◌, subst, append_assoc, append-nil, arith, length-append, length-take, take_at}
 use mathlib.Core.Bool.{Bool-set}
 use mathlib.Core.List.Perm
 use mathlib.Core.List.{Perm}
 use Rattle.std.specs.Cmp.{IsTotalOrder}
 use Rattle.std.specs.List.{AllByRecursion}
 use Rattle.std.proofs.ByRecursion.{All-push, All-weaker}
-use Rattle.std.proofs.lemmas.List.{take_more_set}
+use Rattle.std.proofs.lemmas.List.{drop_at, nil_from_length, take_all, take_more_set}
 use Rattle.std.specs.declared.cmp.Ord as Ord
 use Rattle.std.specs.declared.cmp.PartialEq as PartialEq
 use Rattle.std.specs.declared.cmp.PartialOrd as PartialOrd
 use Rattle.queue.specs.declared.queue.Queue.{Queue}
 use Rattle.queue.specs.Orders.{InOrder, Heaped, Least, NotAfter}
 use Rattle.queue.specs.Queues.{entries, Taken, Sorted, Empty}
+use Rattle.queue.proofs.Heaps.{none_heaped}
 use Rattle.queue.proofs.Permuted.{all_perm, length_perm}
 
 in_order_push : {X : Type 0} (L : X → X → Type 0) (done : List X) (x : X) → InOrder L done → AllByRecursion (λ d. L d x) done → InOrder L (done ++ x ∷ [])
@@ -51,30 +52,21 @@ module _ {X : Type 0} {ord : Ord.Ghosts X} {equal : PartialEq.Ghosts X} {partial
   ended p done q s f t =
       ((subst (Perm (entries p)) (ap (λ l. done ++ l) t.0 ∙ append-nil done) f.same, λ o h. (f.ordered o h).0), (t.1.0, t.1.1 ∙ f.room, t.1.2))
 
-  -- the same, with what was taken at the front of a list
-  pub record Placed (p : Queue X ord equal partial) (old : List X) (k : ℕ) (q : Queue X ord equal partial) (new : List X) : Type 0 where
-    pub taken : TakenOff p (take k new) q
-    pub behind : drop k new ≡ drop k old
-    pub count : k + length (entries q) ≡ length (entries p)
+  -- the same, with what was taken in the first places of a list that has as many as there were entries
+  module _ (p : Queue X ord equal partial) (places : List X) (k : ℕ) (q : Queue X ord equal partial) (enough : length places ≡ length (entries p)) (f : TakenOff p (take k places) q) where
+    counted : length (take k places) + length (entries q) ≡ length (entries p)
+    counted = omega (arith, length_perm (entries p) (take k places ++ entries q) f.same, length-append (take k places) (entries q))
 
-  pub none_placed : (p : Queue X ord equal partial) (old : List X) → Placed p old 0 p old
-  none_placed p old = record { taken = begun p; behind = refl; count = omega arith }
+    pub one_placed : (x : X) (s : Queue X ord equal partial) → k < length places → Taken R q (Some x) s → TakenOff p (take (k + 1) (set places k x)) s
+    one_placed x s lt t = rw (take_more_set places k x lt) (one_more p (take k places) q x s f t)
 
-  module _ (p : Queue X ord equal partial) (old : List X) (k : ℕ) (q : Queue X ord equal partial) (new : List X) (f : Placed p old k q new) where
-    -- one entry is gone from the count of those that are left
-    pub one_less : (x : X) (s : Queue X ord equal partial) → Taken R q (Some x) s → k + 1 + length (entries s) ≡ length (entries p)
-    one_less x s t = omega (arith, f.count, length_perm (entries q) (x ∷ entries s) t.0)
+    pub more_left : (s : Queue X ord equal partial) → k < length places → Taken R q None s → ⊥
+    more_left s lt t = omega (arith, counted, length-take k places, ap length t.0)
 
-    pub one_placed : (x : X) (s : Queue X ord equal partial) → Taken R q (Some x) s → length (entries p) ≤ length new → Placed p old (k + 1) s (set new k x)
-    one_placed x s t enough =
-        let less = one_less x s t in
-        record {
-          taken = subst (λ l. TakenOff p l s) (sym (take_more_set new k x (omega arith))) (one_more p (take k new) q x s f.taken t);
-          behind = drop-set-lt (k + 1) new k x (omega arith) ∙ sym (drop-drop 1 k new) ∙ ap (drop 1) f.behind ∙ drop-drop 1 k old;
-          count = less;
-        }
-
-    pub all_placed : (s : Queue X ord equal partial) → Taken R q None s → (k ≡ length (entries p)) × Sorted R p (take k new) × (drop k new ≡ drop k old) × Empty R p.room s
-    all_placed s t =
-        let e = ended p (take k new) q s f.taken t in
-        (omega (arith, f.count, ap length t.0), e.0, f.behind, e.1)
+    -- as the checker reads the list behind the loop, of which places are the first n
+    pub all_placed : (old : List X) (n : ℕ) → length places ≡ n → length places ≤ k → (n ≡ length (entries p)) × Sorted R p (take n (places ++ drop n old)) × (drop n (places ++ drop n old) ≡ drop n old) × Empty R p.room q
+    all_placed old n long end =
+        let whole = take_all k places end in
+        let none = nil_from_length (entries q) (omega (arith, counted, ap length whole)) in
+        let all = ended p places q q (rw whole at f) (none, (none, refl, none_heaped (entries q) none)) in
+        rw (take_at places (drop n old) n long, drop_at places (drop n old) n long) (omega arith, all.0, refl, all.1)

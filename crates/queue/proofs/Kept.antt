@@ -1,5 +1,5 @@
 -- What stays through a call, whatever it answers: the entries stand as a heap, and the room.
-use Rattle.std.proofs.Common.{◌≡◌, ◌<◌, ◌∷◌, length, Some, None, Ok, Err, Option, Result, Ordering, sym, ap, subst, arith}
+use Rattle.std.proofs.Common.{◌≡◌, ◌<◌, ◌∷◌, length, Some, None, Ok, Err, Option, Result, Ordering, ap, arith}
 use mathlib.Core.List.{Perm}
 use Rattle.std.specs.Cmp.{IsTotalOrder}
 use Rattle.stops.specs.declared.refusal.Refusal.{Refusal}
@@ -16,7 +16,7 @@ use Rattle.queue.specs.Queues.{entries, Added, Taken}
 module _ {X : Type 0} {ord : Ord.Ghosts X} {equal : PartialEq.Ghosts X} {partial : PartialOrd.Ghosts X} (R : X → X → Ordering) (p q : Queue X ord equal partial) where
   pub added_heaped : (o : IsTotalOrder R) (x : X) (r : Result (Unit {0}) Refusal) → Added R x p r q → Heaped o (entries p) → Heaped o (entries q)
   added_heaped o x (Ok u) a h = a.1.2 o h
-  added_heaped o x (Err e) a h = subst (λ (z : Queue X ord equal partial). Heaped o (entries z)) (sym a.2) h
+  added_heaped o x (Err e) a h = rw a.2 h
 
   -- where there is room, the entry is held besides
   pub added_more : (x : X) (r : Result (Unit {0}) Refusal) → Added R x p r q → length (entries p) < p.room → Perm (x ∷ entries p) (entries q)
@@ -37,7 +37,7 @@ module _ {X : Type 0} {ord : Ord.Ghosts X} {equal : PartialEq.Ghosts X} {partial
 
 pub due_heaped : (p q : DueQueue) (r : Option Due) → Left p r q → Heaped by_due (entries p) → Heaped by_due (entries q)
 due_heaped p q (Some x) t h = t.2 by_due h
-due_heaped p q None t h = subst (λ (z : DueQueue). Heaped by_due (entries z)) (sym t) h
+due_heaped p q None t h = rw t h
 
 pub due_room : (p q : DueQueue) (r : Option Due) → Left p r q → q.room ≡ p.room
 due_room p q (Some x) t = t.1

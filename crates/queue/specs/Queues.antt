@@ -1,6 +1,7 @@
 -- What a queue holds, and what its calls do.
 -- That the entries stand as a heap is a premise that an empty queue meets and that every call passes on.
-use Rattle.std.specs.Prelude.{◌≡◌, ℕ, ◌<◌, List, [], ◌∷◌, map, length, take, drop, Some, None, Ok, Err, Option, Result}
+use Rattle.std.specs.Prelude.{◌≡◌, ℕ, ◌<◌, List, [], ◌∷◌, map, length, take, drop, Some, None, Ok, Err, Option, Result, IfOk}
+use Rattle.std.specs.declared.alloc.AllocError.{AllocError}
 use Rattle.std.specs.declared.cmp.Ordering.{Ordering}
 use Rattle.std.specs.BinaryHeap.{heap_items}
 use mathlib.Core.List.{Perm}
@@ -37,9 +38,8 @@ module _ {X : Type 0} {ord : Ord.Ghosts X} {equal : PartialEq.Ghosts X} {partial
     Empty room q = (entries q ≡ []) × (q.room ≡ room) × ((o : IsTotalOrder R) → Heaped o (entries q))
 
     -- Reserved: an empty queue. Else memory was wanting.
-    abbrev pub Reserved : ℕ → Result (Queue X ord equal partial) Refusal → Type 0
-    Reserved room (Ok q) = Empty room q
-    Reserved room (Err e) = refused e ≡ (0, [])
+    abbrev pub Reserved : ℕ → Result (Queue X ord equal partial) AllocError → Type 0
+    Reserved room r = IfOk r (Empty room)
 
     -- x is held besides
     abbrev pub OneMore : X → Queue X ord equal partial → Queue X ord equal partial → Type 0

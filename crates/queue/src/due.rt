@@ -14,7 +14,7 @@ pub struct Due {
 }
 
 impl Due {
-    // Whether this entry is in order before the other, or the same.
+    // Whether this entry is in order before the other, or the same. Not generic: it says which order was derived.
     pub fn no_later(&self, other: &Due) -> bool
         ensures { Decides result (DueNoLater self.now other.now) }
     {

@@ -14,7 +14,7 @@ pub struct PlannedVisit {
 }
 
 impl PlannedVisit {
-    // Whether this visit is in order before the other, or the same.
+    // Whether this visit is in order before the other, or the same. Not generic: it says which order was derived.
     pub fn no_later(&self, other: &PlannedVisit) -> bool
         ensures { Decides result (VisitNoLater self.now other.now) }
     {
@@ -24,6 +24,7 @@ impl PlannedVisit {
 
 impl Queue<PlannedVisit> {
     // Takes all visits off and puts them at the front of the caller's list, as a plan lists them.
+    #[tactic(auto, using(crate::proofs::Numbers::planned))]
     pub fn plan_into(&mut self, list: &mut [PlannedVisit]) -> Result<usize, Refusal>
         ensures { Planned self.old list.old result self.new list.new }
     {

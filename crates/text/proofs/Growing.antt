@@ -1,7 +1,8 @@
 -- A buffer that grows by a text, part by part.
-use Rattle.std.proofs.Common.{◌≡◌, ℕ, ◌≤◌, List, [], ◌++◌, length, take, Ok, Err, Result, sym, refl, ap, ◌∙◌, append_assoc, append-nil, arith, length-append, take_at}
+use Rattle.std.proofs.Common.{◌≡◌, ℕ, ◌≤◌, rules, List, [], ◌++◌, length, Ok, Err, Result, refl, ap, ◌∙◌, arith, length-append, take_at}
 use lib.Seq.{take-append-le}
 use Rattle.std.proofs.lemmas.List.{take_all, take-take}
+use Rattle.std.proofs.lemmas.Grind.{common_steps}
 use Rattle.stops.specs.declared.refusal.Refusal.{Refusal}
 use Rattle.text.specs.declared.buffer.Buffer.{Buffer}
 use Rattle.text.specs.Buffers.{content, Added, Partly}
@@ -12,34 +13,40 @@ Left a all b rest = (content b ++ rest ≡ content a ++ all) × (length (content
 
 -- before anything was added
 pub begun : (a : Buffer) (all : List ℕ) → Left a all a all
-begun a all = (refl, omega arith, refl)
+begun a all = search rules
 
 -- after everything was
 pub ended : (a : Buffer) (all : List ℕ) (b : Buffer) (u : Unit {0}) → Left a all b [] → Partly all a (Ok u) b
-ended a all b u l = (sym (append-nil (content b)) ∙ l.0, l.2)
+ended a all b u l = grind (arith, common_steps)
 
 -- what adds a text or nothing may also be said to add it or a part
 pub partly : (t : List ℕ) (a : Buffer) (r : Result (Unit {0}) Refusal) (b : Buffer) → Added t a r b → Partly t a r b
 partly t a (Ok u) b h = h
-partly t a (Err e) b h = (h.0, h.1, ap (take (length (content a))) h.2 ∙ take_all (length (content a)) (content a) (omega arith), h.3)
+partly t a (Err e) b h = search (rules, take_all)
 
 module _ (a : Buffer) (all : List ℕ) (b c : Buffer) (t : List ℕ) where
   pub part_added : (u : Unit {0}) (rest : List ℕ) → Left a all b (t ++ rest) → Partly t b (Ok u) c → Left a all c rest
-  part_added u rest l h =
-      (ap (λ x. x ++ rest) h.0 ∙ append_assoc (content b) t rest ∙ l.0, omega (arith, ap length h.0, length-append (content b) t, l.1), h.1 ∙ l.2)
+  part_added u rest l h = grind (arith, common_steps)
 
   -- where a part finds no room, the whole has none either
   pub part_refused : (e : Refusal) (rest : List ℕ) → Left a all b rest → length t ≤ length rest → Partly t b (Err e) c → Partly all a (Err e) c
   part_refused e rest l few h =
       let n = length (content a) in (
         h.0,
-        omega (arith, h.1, l.2, few, ap length l.0, length-append (content b) rest, length-append (content a) all),
-        sym (take-take n (length (content b)) (content c) l.1) ∙ ap (take n) h.2 ∙ sym (take-append-le n (content b) rest l.1) ∙ ap (take n) l.0 ∙ take_at (content a) all n refl,
+        omega (arith, simp length-append at (ap length l.0)),
+        cc (take-take n (length (content b)) (content c) l.1, take-append-le n (content b) rest l.1, take_at (content a) all n refl),
         h.3 ∙ l.2,
       )
 
+  -- both, where the part is the next of what is left
+  pub next_added : (u : Unit {0}) (rest more : List ℕ) → Left a all b rest → rest ≡ t ++ more → Partly t b (Ok u) c → Left a all c more
+  next_added u rest more l next h = part_added u more (rw next at l) h
+
+  pub next_refused : (e : Refusal) (rest more : List ℕ) → Left a all b rest → rest ≡ t ++ more → Partly t b (Err e) c → Partly all a (Err e) c
+  next_refused e rest more l next h = part_refused e rest l (omega (arith, simp length-append at (ap length next))) h
+
   pub last_added : (r : Result (Unit {0}) Refusal) → Left a all b t → Partly t b r c → Partly all a r c
-  last_added (Ok u) l h = (h.0 ∙ l.0, h.1 ∙ l.2)
+  last_added (Ok u) l h = search rules
   last_added (Err e) l h = part_refused e t l (omega arith) h
 
 -- a text in two parts
@@ -48,4 +55,4 @@ module _ (t u : List ℕ) (a b : Buffer) where
   both_added w r c h k = last_added a (t ++ u) b c u r (part_added a (t ++ u) a b t w u (begun a (t ++ u)) h) k
 
   pub first_refused : (e : Refusal) → Partly t a (Err e) b → Partly (t ++ u) a (Err e) b
-  first_refused e h = part_refused a (t ++ u) a b t e (t ++ u) (begun a (t ++ u)) (omega (arith, length-append t u)) h
+  first_refused e h = next_refused a (t ++ u) a b t e (t ++ u) u (begun a (t ++ u)) refl h

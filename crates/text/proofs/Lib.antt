@@ -1,5 +1,5 @@
+pub mod Split
 pub mod Parted
 pub mod Digits
-pub mod Readings
 pub mod Growing
 pub mod Back

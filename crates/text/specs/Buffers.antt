@@ -1,5 +1,6 @@
 -- A text that grows in reserved memory.
-use Rattle.std.specs.Prelude.{◌≡◌, ℕ, ◌+◌, ◌<◌, List, [], ◌++◌, length, take, Ok, Err, vec_items, Result}
+use Rattle.std.specs.Prelude.{◌≡◌, ℕ, ◌+◌, ◌<◌, List, [], ◌++◌, length, take, Ok, Err, vec_items, Result, IfOk}
+use Rattle.std.specs.declared.alloc.AllocError.{AllocError}
 use Rattle.stops.specs.declared.refusal.Refusal.{Refusal}
 use Rattle.stops.specs.Refusals.{refused}
 use Rattle.text.specs.declared.buffer.Buffer.{Buffer}
@@ -20,6 +21,5 @@ Partly text old (Ok u) new = (content new ≡ content old ++ text) × (new.room 
 Partly text old (Err e) new = (refused e ≡ (18, [])) × (old.room < length (content old) + length text) × (take (length (content old)) (content new) ≡ content old) × (new.room ≡ old.room)
 
 -- Reserved: a buffer that holds nothing, with this room. Else memory was wanting.
-abbrev pub Reserved : ℕ → Result Buffer Refusal → Type 0
-Reserved room (Ok b) = (content b ≡ []) × (b.room ≡ room)
-Reserved room (Err e) = refused e ≡ (0, [])
+abbrev pub Reserved : ℕ → Result Buffer AllocError → Type 0
+Reserved room r = IfOk r (λ b. (content b ≡ []) × (b.room ≡ room))

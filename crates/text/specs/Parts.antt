@@ -1,5 +1,5 @@
 -- A text cut into parts at a byte: the fields of a line at its spaces, the lines of an input at byte 10.
-use Rattle.std.specs.Prelude.{◌≡◌, ℕ, ◌<◌, ◌≤◌, cond, List, [], ◌∷◌, length, ◌==◌, ◌≢◌, slice_index}
+use Rattle.std.specs.Prelude.{ℕ, cond, List, [], ◌∷◌, ◌==◌}
 
 -- a byte in front of the first part
 abbrev pub ahead : ℕ → List (List ℕ) → List (List ℕ)
@@ -18,9 +18,3 @@ fields line = parts 32 ([] ∷ []) line
 -- the lines of an input, each ended by byte 10; a last line without it counts unless it is empty
 abbrev pub lines : List ℕ → List (List ℕ)
 lines input = parts 10 [] input
-
--- n is the index of the first byte `at` of a text, or its length
-pub record First (at : ℕ) (bs : List ℕ) (n : ℕ) : Type 0 where
-  pub within : n ≤ length bs
-  pub before : (k : ℕ) → k < n → slice_index bs k ≢ at
-  pub found : n < length bs → slice_index bs n ≡ at

@@ -1,20 +1,18 @@
 ghost use Rattle.std.specs.Prelude.{◌≡◌, ◌<◌, ◌≤◌, length, IfSome};
-ghost use Rattle.text.specs.Numbers.{reading, plain, negative, signed};
+ghost use Rattle.text.specs.Numbers.{reading, plain, signed};
 
 // The most figures of a number.
 const FIGURES: usize = 6;
 
+// The number that figures write.
 fn read_figures(field: &[u8]) -> Option<u32>
     requires { length field.now ≤ 6 }
     ensures value { result ≡ reading 0 field.now }
     ensures bound { IfSome result (λ n. n < 1000000) }
 {
-    let mut n = 0u32;
+    let mut n = 0;
     for b in field {
-        if *b < b'0' || *b > b'9' {
-            return None;
-        }
-        n = n * 10 + u32::from(*b - b'0');
+        n = n * 10 + char::from(*b).to_digit(10)?;
     }
     Some(n)
 }
@@ -24,25 +22,10 @@ pub fn plain_number(field: &[u8]) -> Option<u32>
     ensures value { result ≡ plain field.now }
     ensures bound { IfSome result (λ n. n < 1000000) }
 {
-    let len = field.len();
-    if len == 0 || len > FIGURES {
-        return None;
-    }
-    if len > 1 && field[0] == b'0' {
-        return None;
-    }
-    read_figures(field)
-}
-
-fn negative_number(figures: &[u8]) -> Option<i32>
-    ensures { result ≡ negative figures.now }
-{
-    if figures.len() > 0 && figures[0] == b'0' {
-        return None;
-    }
-    match plain_number(figures) {
-        Some(n) => Some(-(n as i32)),
-        None => None,
+    match field {
+        [] | [b'0', _, ..] => None,
+        _ if field.len() > FIGURES => None,
+        _ => read_figures(field),
     }
 }
 
@@ -50,12 +33,9 @@ fn negative_number(figures: &[u8]) -> Option<i32>
 pub fn signed_number(field: &[u8]) -> Option<i32>
     ensures { result ≡ signed field.now }
 {
-    let len = field.len();
-    if len > 0 && field[0] == b'-' {
-        return negative_number(&field[1..len]);
-    }
-    match plain_number(field) {
-        Some(n) => Some(n as i32),
-        None => None,
+    match field {
+        [b'-', b'0', ..] => None,
+        [b'-', figures @ ..] => plain_number(figures).map(|n| -(n as i32)),
+        _ => plain_number(field).map(|n| n as i32),
     }
 }

@@ -1,7 +1,8 @@
 // A part of a line that is written: a fixed word, or a number by its figures, with a minus sign if it is negative.
+// Pieces, and not `write!`, since the project's own writer of numbers writes all figures.
 #[derive(Clone, Copy)]
 pub enum Piece {
-    Word(&'static [u8]),
+    Word(&'static str),
     Number(u32),
     Signed(i32),
 }

@@ -4,14 +4,14 @@ ghost use Rattle.queue.specs.Queues.{entries, front, Added, Drained, Empty, OneM
 ghost use Rattle.queue.specs.Orders.{FirstOf};
 
 use crate::queue::Queue;
-use std::alloc::Global;
+use std::alloc::{AllocError, Global};
 use std::cmp::Reverse;
 use std::collections::BinaryHeap;
 use stops::refusal::Refusal;
 
 impl<T: Ord> Queue<T> {
     // An empty queue with memory for as many entries as its room.
-    pub fn reserve(heap: Global, room: usize) -> Result<Queue<T>, Refusal>
+    pub fn reserve(heap: Global, room: usize) -> Result<Queue<T>, AllocError>
         ensures { Reserved T.cmp room result }
     {
         let heap = BinaryHeap::with_capacity(heap, room)?;
@@ -44,10 +44,7 @@ impl<T: Ord> Queue<T> {
         ensures value { option_map (λ x. x.now) result ≡ front self.now }
         ensures least { IfSome result (λ x. FirstOf T.cmp x.now (entries self.now)) }
     {
-        match self.heap.peek() {
-            Some(entry) => Some(&entry.0),
-            None => None,
-        }
+        self.heap.peek().map(|entry| &entry.0)
     }
 
     // Takes the least entry off.
@@ -55,10 +52,7 @@ impl<T: Ord> Queue<T> {
         ensures value { result ≡ front self.old }
         ensures left { Taken T.cmp self.old result self.new }
     {
-        match self.heap.pop() {
-            Some(entry) => Some(entry.0),
-            None => None,
-        }
+        self.heap.pop().map(|entry| entry.0)
     }
 
     // Takes all entries off, in order, and puts them at the front of the caller's list.
@@ -67,13 +61,15 @@ impl<T: Ord> Queue<T> {
         T: Drop,
         ensures { Drained T.cmp self.old list.old result self.new list.new }
     {
-        if list.len() < self.len() {
+        let count = self.len();
+        if list.len() < count {
             return Err(Refusal::TooShort);
         }
-        let mut count = 0;
-        while let Some(entry) = self.take() {
-            list[count] = entry;
-            count += 1;
+        // There are as many places as entries.
+        for place in &mut list[..count] {
+            if let Some(entry) = self.take() {
+                *place = entry;
+            }
         }
         Ok(count)
     }

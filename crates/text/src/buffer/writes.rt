@@ -6,8 +6,9 @@ ghost use Rattle.text.specs.Written.{Wrote};
 
 use crate::buffer::Buffer;
 use crate::figures::write_number;
+use crate::passage::Passage;
 use crate::piece::Piece;
-use std::alloc::Global;
+use std::alloc::{AllocError, Global};
 use stops::refusal::Refusal;
 
 // The most figures of a 32-bit number.
@@ -15,7 +16,7 @@ const FIGURES: usize = 10;
 
 impl Buffer {
     // A buffer that holds nothing, with memory for as many bytes as its room.
-    pub fn reserve(heap: Global, room: usize) -> Result<Buffer, Refusal>
+    pub fn reserve(heap: Global, room: usize) -> Result<Buffer, AllocError>
         ensures { Reserved room result }
     {
         let bytes = Vec::with_capacity(heap, room)?;
@@ -29,16 +30,23 @@ impl Buffer {
         self.bytes.as_slice()
     }
 
-    // Adds a line of these pieces, ended by byte 10, or nothing.
-    pub fn add_line(&mut self, pieces: &[Piece]) -> Result<(), Refusal>
-        ensures { Added (line_of pieces.now) self.old result self.new }
+    // Adds the whole of a passage, or nothing.
+    pub fn add_whole<P: Passage>(&mut self, passage: &P) -> Result<(), Refusal>
+        ensures { Added (P.text passage.now) self.old result self.new }
     {
         let held = self.bytes.len();
-        let done = self.add_pieces(pieces);
+        let done = passage.write_to(self);
         if done.is_err() {
             self.bytes.truncate(held);
         }
         done
+    }
+
+    // Adds a line of these pieces, ended by byte 10, or nothing.
+    pub fn add_line(&mut self, pieces: &[Piece]) -> Result<(), Refusal>
+        ensures { Added (line_of pieces.now) self.old result self.new }
+    {
+        self.add_whole(&Line { pieces })
     }
 
     // Keeps so many bytes at the front.
@@ -57,24 +65,16 @@ impl Buffer {
         if out.len() < len {
             return Err(Refusal::TooShort);
         }
-        out[0..len].copy_from_slice(self.content());
+        out[..len].copy_from_slice(self.content());
         Ok(len)
     }
 
-    fn add_pieces(&mut self, pieces: &[Piece]) -> Result<(), Refusal>
-        ensures { Partly (line_of pieces.now) self.old result self.new }
-    {
-        for piece in pieces {
-            self.add_piece(*piece)?;
-        }
-        self.add(b"\n")
-    }
-
+    #[tactic(auto, using(crate::proofs::Growing::partly))]
     fn add_piece(&mut self, part: Piece) -> Result<(), Refusal>
         ensures { Partly (piece part) self.old result self.new }
     {
         match part {
-            Piece::Word(word) => self.add(word),
+            Piece::Word(word) => self.add(word.as_bytes()),
             Piece::Number(n) => self.add_number(n),
             Piece::Signed(z) => self.add_signed(z),
         }
@@ -83,12 +83,10 @@ impl Buffer {
     fn add_signed(&mut self, z: i32) -> Result<(), Refusal>
         ensures { Partly (signed_decimal z) self.old result self.new }
     {
-        let size = z.unsigned_abs();
-        if z >= 0 {
-            return self.add_number(size);
+        if z < 0 {
+            self.add(b"-")?;
         }
-        self.add(b"-")?;
-        self.add_number(size)
+        self.add_number(z.unsigned_abs())
     }
 
     fn add_number(&mut self, n: u32) -> Result<(), Refusal>
@@ -96,7 +94,7 @@ impl Buffer {
     {
         let mut figures = [0u8; FIGURES];
         let len = write_number(n, &mut figures)?;
-        self.add(&figures[0..len])
+        self.add(&figures[..len])
     }
 
     fn add(&mut self, text: &[u8]) -> Result<(), Refusal>
@@ -107,5 +105,22 @@ impl Buffer {
         }
         let _ = self.bytes.extend_from_slice(text);
         Ok(())
+    }
+}
+
+// Pieces one behind the other, and byte 10.
+#[derive(Clone, Copy)]
+struct Line<'a> {
+    pieces: &'a [Piece],
+}
+
+impl Passage for Line<'_> {
+    ghost text = { λ l. line_of l.pieces.now };
+
+    fn write_to(&self, buffer: &mut Buffer) -> Result<(), Refusal> {
+        for piece in self.pieces {
+            buffer.add_piece(*piece)?;
+        }
+        buffer.add(b"\n")
     }
 }

@@ -1,4 +1,4 @@
-ghost use Rattle.std.specs.Prelude.{◌≡◌, length, drop};
+ghost use Rattle.std.specs.Prelude.{◌≡◌, [], ◌∷◌, length, drop, position, MatchOption, ◌==◌};
 ghost use Rattle.std.specs.List.{slice_get};
 ghost use Rattle.std.specs.Option.{option_map};
 ghost use Rattle.text.specs.Parts.{lines};
@@ -6,7 +6,6 @@ ghost use Rattle.text.specs.Lines.{lines_left};
 ghost use Rattle.std.specs.Iterator.{at_most};
 
 use crate::lines::Lines;
-use crate::search::find;
 
 impl<'a> Lines<'a> {
     // All lines of an input.
@@ -20,11 +19,21 @@ impl<'a> Lines<'a> {
     pub fn peek(&self) -> Option<&'a [u8]>
         ensures { option_map (λ x. x.now) result ≡ slice_get (lines_left self.now) 0 }
     {
-        if self.rest.len() == 0 {
+        self.cut().map(|(line, _)| line)
+    }
+
+    // The next line, and what is left behind it.
+    #[tactic(auto, using(crate::proofs::Parted::line_cut, crate::proofs::Parted::line_whole))]
+    fn cut(&self) -> Option<(&'a [u8], &'a [u8])>
+        ensures { MatchOption result (lines_left self.now ≡ []) (λ x. lines_left self.now ≡ x.0.now ∷ lines x.1.now) }
+    {
+        if self.rest.is_empty() {
             return None;
         }
-        let end = find(self.rest, b'\n');
-        Some(&self.rest[0..end])
+        match end_of_line(self.rest) {
+            Some(end) => Some((&self.rest[..end], &self.rest[end + 1..])),
+            None => Some((self.rest, &[])),
+        }
     }
 }
 
@@ -37,14 +46,15 @@ impl<'a> Iterator for Lines<'a> {
     ghost remaining = { λ s. at_most (length (lines_left s)) };
 
     fn next(&mut self) -> Option<&'a [u8]> {
-        let rest = self.rest;
-        let len = rest.len();
-        if len == 0 {
-            return None;
-        }
-        let end = find(rest, b'\n');
-        let next = len.min(end + 1);
-        self.rest = &rest[next..len];
-        Some(&rest[0..end])
+        let (line, rest) = self.cut()?;
+        self.rest = rest;
+        Some(line)
     }
+}
+
+// Where the first line ends, if byte 10 stands behind it.
+fn end_of_line(text: &[u8]) -> Option<usize>
+    ensures { result ≡ position (λ b. b == 10) text.now }
+{
+    text.iter().position(|b| *b == b'\n')
 }

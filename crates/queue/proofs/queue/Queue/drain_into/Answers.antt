@@ -1,21 +1,21 @@
-use Rattle.std.proofs.Common.{arith}
-use Rattle.queue.proofs.Drained.{none_placed, one_less, one_placed, all_placed}
+use Rattle.std.proofs.Common.{arith, length-take}
+use Rattle.queue.proofs.Drained.{begun, one_placed, more_left, all_placed}
 use Rattle.queue.proofs.queue.Queue.drain_into.Goals as goal
+use Rattle.queue.proofs.queue.Queue.drain_into.Goals.{in-Some, in_default}
 
-pub loop-entry-init : goal.loop-entry-init
-loop-entry-init g c = none_placed g.T.Ord.cmp c.args.self.now c.args.list.now
+pub loop-place-init : goal.loop-place-init
+loop-place-init g c = begun g.T.Ord.cmp c.args.self.now
 
-pub bounds-list-count : goal.bounds-list-count
-bounds-list-count g c = omega (arith, one_less g.T.Ord.cmp _ _ _ _ _ c.loop-entry.invariant c.in-Some.entry c.take.new.self c.in-Some.ensures.left)
-
-pub overflow_add-count : goal.overflow_add-count
-overflow_add-count g c = omega (arith, one_less g.T.Ord.cmp _ _ _ _ _ c.loop-entry.invariant c.in-Some.entry c.take.new.self c.in-Some.ensures.left)
-
-pub loop-entry-smaller : goal.loop-entry-smaller
-loop-entry-smaller g c = omega (arith, one_less g.T.Ord.cmp _ _ _ _ _ c.loop-entry.invariant c.in-Some.entry c.take.new.self c.in-Some.ensures.left)
-
-pub loop-entry-preserved : goal.loop-entry-preserved
-loop-entry-preserved g c = one_placed g.T.Ord.cmp _ _ _ _ _ c.loop-entry.invariant c.in-Some.entry c.take.new.self c.in-Some.ensures.left (omega arith)
+pub loop-place-preserved : goal.loop-place-preserved
+loop-place-preserved g c =
+    let k = c.loop-place in
+    let cut = length-take c.len-count.result c.args.list.now in
+    elim c.match-take.branch [
+      | in-Some w ↦ rw w.place-items-is (one_placed g.T.Ord.cmp c.args.self.now k.place-items k.place-index k.self (omega (arith, cut)) k.invariant w.in-Some.entry c.take.new.self (omega arith) w.in-Some.ensures.left)
+      | in_default w ↦ absurd (more_left g.T.Ord.cmp c.args.self.now k.place-items k.place-index k.self (omega (arith, cut)) k.invariant c.take.new.self (omega arith) w.in_default.ensures.left)
+    ]
 
 pub returns : goal.returns
-returns g c = all_placed g.T.Ord.cmp _ _ _ _ _ c.loop-entry.invariant c.take.new.self c.in_default.ensures.left
+returns g c =
+    let cut = length-take c.len-count.result c.args.list.now in
+    all_placed g.T.Ord.cmp c.args.self.now c.loop-place.place-items c.loop-place.place-index c.loop-place.self (omega (arith, cut)) c.loop-place.invariant c.args.list.now c.len-count.result (omega (arith, cut)) (omega arith)
