@@ -1,4 +1,3 @@
 pub mod Carried
 pub mod Numbering
-pub mod Views
 pub mod Logged

@@ -1,7 +1,6 @@
 -- A log: the calls of a run with their answers.
-use Rattle.std.specs.Prelude.{◌≡◌, ℕ, List, [], Ok, Err, vec_items, Result}
-use Rattle.stops.specs.declared.refusal.Refusal.{Refusal}
-use Rattle.stops.specs.Refusals.{refused}
+use Rattle.std.specs.Prelude.{◌≡◌, ℕ, List, [], IfOk, vec_items, Result}
+use Rattle.std.specs.declared.alloc.AllocError.{AllocError}
 use Rattle.calls.specs.declared.entry.Entry.{Entry}
 use Rattle.book.specs.declared.log.Log.{Log}
 
@@ -9,7 +8,6 @@ use Rattle.book.specs.declared.log.Log.{Log}
 abbrev pub entries_in : Log → List Entry
 entries_in l = vec_items l.entries
 
--- reserved: no entry, and this many places; else memory was wanting
-abbrev pub Reserved : ℕ → Result Log Refusal → Type 0
-Reserved room (Ok l) = (entries_in l ≡ []) × (l.room ≡ room)
-Reserved room (Err e) = refused e ≡ (0, [])
+-- what is reserved has no entry, and this many places
+abbrev pub Reserved : ℕ → Result Log AllocError → Type 0
+Reserved room r = IfOk r (λ l. (entries_in l ≡ []) × (l.room ≡ room))

@@ -18,6 +18,7 @@ const fn hold_for(class: Class) -> u32
 }
 
 // The deadline of an offer that is made at a minute, in a book with this slot table.
+#[tactic(auto, unfolding(calls::specs::Deadlines::deadline_from))]
 pub(crate) fn deadline_of(table: &SlotTable, minute: u32, class: Class) -> u32
     requires { minute ≤ last_booking_minute }
     ensures value { result ≡ deadline table.now minute class }

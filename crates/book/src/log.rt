@@ -2,7 +2,7 @@ ghost use Rattle.std.specs.Prelude.{◌≤◌, vec_len, vec_capacity};
 
 use calls::entry::Entry;
 
-// The calls of a run with their answers, in reserved memory.
+// The calls of a run with their answers, in memory whose room is given when it is reserved.
 #[derive(Drop)]
 pub struct Log {
     entries: Vec<Entry>,

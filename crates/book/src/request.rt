@@ -12,15 +12,11 @@ use stops::table::SlotTable;
 pub(crate) fn stop_for(table: &SlotTable, request: Request) -> Result<Stop, Refusal>
     ensures { Wanted (slots_of table.now) request result }
 {
-    let Ok(place) = Place::new(request.x, request.y) else {
-        return Err(Refusal::OffTheGrid);
-    };
+    let place = Place::new(request.x, request.y).map_err(|_| Refusal::OffTheGrid)?;
     if request.units < 1 || request.units > UNITS {
         return Err(Refusal::UnitsOutOfRange);
     }
-    let Some(hours) = table.slot(request.slot) else {
-        return Err(Refusal::UnknownSlot);
-    };
+    let hours = table.slot(request.slot).ok_or(Refusal::UnknownSlot)?;
     // slot and units are in range, so this is never refused
     Stop::new(request.slot, hours, place, request.units, request.class)
 }

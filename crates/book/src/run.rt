@@ -38,8 +38,7 @@ pub fn run<F: Fleet>(
     }
     log.clear();
     let mut book = Book::open(memory, table, fleet);
-    for i in 0..calls.len() {
-        let call = calls[i];
+    for &call in calls {
         let answer = book.call(call);
         log.add(Entry { call, answer });
     }

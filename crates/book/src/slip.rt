@@ -1,6 +1,7 @@
 ghost use Rattle.std.specs.Prelude.{◌≡◌, true, false};
 
 // A token for the number of an offer. A live one must be spent, by confirm, release or park; it cannot be copied or let go.
+// Number and flag, and no Option, by a rule of the project.
 pub struct Slip {
     number: u16,
     live: bool,

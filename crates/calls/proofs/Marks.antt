@@ -1,43 +1,24 @@
 -- Laws of the records: reading one by its number, changing one state, adding one, letting the due ones lapse.
-use Rattle.std.proofs.Common.{◌≡◌, ℕ, zero, suc, ◌+◌, ◌<◌, true, false, cond, leb, List, [], ◌∷◌, length, Some, None, Option, sym, refl, ap, ◌∙◌, arith}
+use Rattle.std.proofs.Common.{◌≡◌, ℕ, zero, suc, ◌+◌, ◌<◌, true, false, cond, leb, List, [], ◌∷◌, length, Some, refl, ap, ◌∙◌, arith}
+use Rattle.std.proofs.lemmas.Bool.Decides.{nat_tests}
 use Rattle.std.proofs.lemmas.Bool.{cond_both, cond-false, cond-true}
 use Rattle.stops.specs.declared.stop.Stop.{Stop}
 use Rattle.queue.specs.declared.due.Due.{Due}
 use Rattle.calls.specs.declared.record.Record.{Record}
 use Rattle.calls.specs.declared.state.State.{State}
-use Rattle.calls.specs.declared.state.State.TheVariants.{Open, Lapsed, Confirmed, Released, Withdrawn}
+use Rattle.calls.specs.declared.state.State.TheVariants.{Open, Lapsed}
 use Rattle.calls.specs.Lapses.{lapsed, lapses, insert, with_due, due_from}
-use Rattle.calls.specs.Records.{mark, state_at, is_open, is_confirmed}
+use Rattle.calls.specs.Records.{mark, state_at}
 
 pub placed_at : (rs : List Record) (i : ℕ) (s : State) → state_at rs i ≡ Some s → i < length rs
-placed_at [] i s e = let z : ◌≡◌ {A = ℕ} 0 1 = cc in absurd (omega arith)
+placed_at [] i s e = cc
 placed_at (r ∷ rs) zero s e = omega arith
-placed_at (r ∷ rs) (suc i) s e = let k = placed_at rs i s e in omega arith
-
--- an open number has a deadline, a confirmed one a minute
-pub opened_by : (o : Option State) → is_open o ≡ true → (d : ℕ) × (o ≡ Some (Open d))
-opened_by None h = let z : ◌≡◌ {A = ℕ} 0 1 = cc in absurd (omega arith)
-opened_by (Some (Open d)) h = (d, refl)
-opened_by (Some (Confirmed m)) h = let z : ◌≡◌ {A = ℕ} 0 1 = cc in absurd (omega arith)
-opened_by (Some (Released m)) h = let z : ◌≡◌ {A = ℕ} 0 1 = cc in absurd (omega arith)
-opened_by (Some (Lapsed d)) h = let z : ◌≡◌ {A = ℕ} 0 1 = cc in absurd (omega arith)
-opened_by (Some (Withdrawn m)) h = let z : ◌≡◌ {A = ℕ} 0 1 = cc in absurd (omega arith)
-
-pub confirmed_by : (o : Option State) → is_confirmed o ≡ true → (m : ℕ) × (o ≡ Some (Confirmed m))
-confirmed_by None h = let z : ◌≡◌ {A = ℕ} 0 1 = cc in absurd (omega arith)
-confirmed_by (Some (Open d)) h = let z : ◌≡◌ {A = ℕ} 0 1 = cc in absurd (omega arith)
-confirmed_by (Some (Confirmed m)) h = (m, refl)
-confirmed_by (Some (Released m)) h = let z : ◌≡◌ {A = ℕ} 0 1 = cc in absurd (omega arith)
-confirmed_by (Some (Lapsed d)) h = let z : ◌≡◌ {A = ℕ} 0 1 = cc in absurd (omega arith)
-confirmed_by (Some (Withdrawn m)) h = let z : ◌≡◌ {A = ℕ} 0 1 = cc in absurd (omega arith)
+placed_at (r ∷ rs) (suc i) s e = grind (arith, placed_at rs i s e)
 
 pub lapses_mark : (c : ℕ) (rs : List Record) (i d : ℕ) → state_at rs i ≡ Some (Open d) → leb d c ≡ true → lapses c (mark rs i (Lapsed d)) ≡ lapses c rs
 lapses_mark c [] i d e h = refl
-lapses_mark c (r ∷ rs) zero d e h =
-    let s : r.state ≡ Open d = cc in
-    let t : lapsed c r.state ≡ Lapsed d = ap (lapsed c) s ∙ cond-true _ _ _ h in
-    ap (λ (y : State). record { stop = r.stop; state = y } ∷ lapses c rs) (sym t)
-lapses_mark c (r ∷ rs) (suc i) d e h = ap (λ y. record { stop = r.stop; state = lapsed c r.state } ∷ y) (lapses_mark c rs i d e h)
+lapses_mark c (r ∷ rs) zero d e h = grind arith
+lapses_mark c (r ∷ rs) (suc i) d e h = grind (arith, lapses_mark c rs i d e h)
 
 -- the first due entry x, and the due entries l once its number has lapsed
 pub record FirstDue (c k : ℕ) (rs : List Record) (x : Due) (l : List Due) : Type 0 where
@@ -52,11 +33,11 @@ Split c k rs [] = lapses c rs ≡ rs
 Split c k rs (x ∷ l) = FirstDue c k rs x l
 
 shift : (c k : ℕ) (x : Stop) (s : State) (rs : List Record) → ((l : List Due) → with_due c s k l ≡ l) → lapsed c s ≡ s → (l : List Due) → Split c (suc k) rs l → Split c k (record { stop = x; state = s } ∷ rs) l
-shift c k x s rs idle still [] e = ap (λ (y : State). record { stop = x; state = y } ∷ lapses c rs) still ∙ ap (λ y. record { stop = x; state = s } ∷ y) e
+shift c k x s rs idle still [] e = grind (arith, nat_tests)
 shift c k x s rs idle still (p ∷ l) f = record { place = suc f.place; number = omega (arith, f.number); opened = f.opened; come = f.come; rest = idle _ ∙ f.rest }
 
 split_insert : (c k : ℕ) (x : Stop) (d : ℕ) (rs : List Record) → leb d c ≡ true → (l : List Due) → due_from c (suc k) rs ≡ l → Split c (suc k) rs l → Split c k (record { stop = x; state = Open d } ∷ rs) (insert d k l)
-split_insert c k x d rs come [] e f = record { place = 0; number = omega arith; opened = refl; come = come; rest = e }
+split_insert c k x d rs come [] e f = grind (arith, nat_tests)
 split_insert c k x d rs come (q ∷ l) e f =
     elim (leb d q.deadline) as (λ b. Split c k (record { stop = x; state = Open d } ∷ rs) (cond b (record { deadline = d; number = k } ∷ (q ∷ l)) (q ∷ insert d k l))) [
       | true ↦ record { place = 0; number = omega arith; opened = refl; come = come; rest = e }
@@ -68,10 +49,7 @@ split_state c k x (Open d) rs f =
     cond_both (leb d c) (insert d k (due_from c (suc k) rs)) (due_from c (suc k) rs) (λ l. Split c k (record { stop = x; state = Open d } ∷ rs) l)
     (λ e. split_insert c k x d rs e _ refl f)
     (λ e. shift c k x (Open d) rs (λ l. cond-false _ _ _ e) (cond-false _ _ _ e) _ f)
-split_state c k x (Lapsed d) rs f = shift c k x (Lapsed d) rs (λ l. refl) refl _ f
-split_state c k x (Confirmed d) rs f = shift c k x (Confirmed d) rs (λ l. refl) refl _ f
-split_state c k x (Released d) rs f = shift c k x (Released d) rs (λ l. refl) refl _ f
-split_state c k x (Withdrawn d) rs f = shift c k x (Withdrawn d) rs (λ l. refl) refl _ f
+split_state c k x s rs f = grind (arith, shift)
 
 -- the due entries, the first split off
 pub due_split : (c k : ℕ) (rs : List Record) → Split c k rs (due_from c k rs)

@@ -1,13 +1,12 @@
 -- A fleet stays in step with the history: its load is what the open and confirmed numbers hold.
-use Rattle.std.proofs.Common.{◌≡◌, ℕ, zero, suc, ◌+◌, true, false, List, [], ◌∷◌, ◌++◌, length, Some, None, Ok, Err, sym, refl, ap, ◌∙◌, subst, arith}
+use Rattle.std.proofs.Common.{◌≡◌, ℕ, zero, suc, ◌+◌, true, false, List, [], ◌∷◌, ◌++◌, length, Some, None, sym, refl, ap, ◌∙◌, subst, arith}
 use mathlib.Core.List.Perm
 use mathlib.Core.List.{Perm}
-use Rattle.std.proofs.lemmas.Bool.{cond-true}
 use Rattle.stops.specs.declared.slot.Slot.{Slot}
 use Rattle.stops.specs.declared.stop.Stop.{Stop}
 use Rattle.queue.specs.declared.due.Due.{Due}
 use Rattle.fleet.specs.Loads.{Load, held}
-use Rattle.fleet.specs.Meaning.{Meaning, after}
+use Rattle.fleet.specs.Meaning.{Meaning}
 use Rattle.fleet.specs.Laws.{Laws, Reached, start, place, remove}
 use Rattle.fleet.proofs.Calls.{placed_load, removed_load}
 use Rattle.fleet.specs.Held.{held_perm}
@@ -51,17 +50,17 @@ module _ {Setup Standing : Type 0} (m : Meaning Setup Standing) (laws : Laws m) 
 
   -- the stop of a number goes, and its state no longer holds it
   pub go_sound : (rs : List Record) (t v : Standing) (n : ℕ) (s s' : State) → Sound rs t → state_of rs n ≡ Some s → holding s' ≡ false → Goes m table u n t v → Sound (mark_of rs n s') v
-  go_sound rs t v zero s s' ok e h g = let z : ◌≡◌ {A = ℕ} 0 1 = cc in absurd (omega arith)
+  go_sound rs t v zero s s' ok e h g = cc
   go_sound rs t v (suc i) s s' ok e h g = go_at rs t ok (suc i) i s s' v (omega arith) e h g
 
   -- the state of a number changes, and still holds its stop
   pub stay_sound : (rs : List Record) (t : Standing) (n : ℕ) (s s' : State) → Sound rs t → state_of rs n ≡ Some s → holding s ≡ holding s' → Sound (mark_of rs n s') t
-  stay_sound rs t zero s s' ok e h = let z : ◌≡◌ {A = ℕ} 0 1 = cc in absurd (omega arith)
+  stay_sound rs t zero s s' ok e h = cc
   stay_sound rs t (suc i) s s' ok e h = stay_at rs t ok i s s' e h
 
   pub there : (rs : List Record) (t : Standing) (n : ℕ) (s : State) → Sound rs t → state_of rs n ≡ Some s → holding s ≡ true → held n (m.load t) ≡ true
-  there rs t zero s ok e h = let z : ◌≡◌ {A = ℕ} 0 1 = cc in absurd (omega arith)
-  there rs t (suc i) s ok e h = there_at rs t ok (suc i) i s (omega arith) e h
+  there rs t zero s ok e h = cc
+  there rs t (suc i) s ok e h = grind (arith, there_at)
 
   -- a stop comes under the next number
   pub come_sound : (rs : List Record) (t : Standing) (s : Stop) (st : State) → Sound rs t → holding st ≡ true → m.objection u t s ≡ None → Sound (rs ++ record { stop = s; state = st } ∷ []) (m.placed u t (next_number rs) s)
@@ -77,12 +76,12 @@ module _ {Setup Standing : Type 0} (m : Meaning Setup Standing) (laws : Laws m) 
 
   -- to take a number that is held is to remove it
   pub take_held : (t : Standing) (n : ℕ) → held n (m.load t) ≡ true → taken m u t n ≡ m.removed u t n
-  take_held t n h = ap (λ a. after a (m.removed u t n) t) (cond-true (held n (m.load t)) (Ok tt) (Err (20, [])) h)
+  take_held t n h = grind arith
 
   module _ (c : ℕ) where
     -- the first due number is held
     first_there : (x : Due) (l : List Due) (rs : List Record) (t : Standing) → FirstDue c 1 rs x l → Sound rs t → held x.number (m.load t) ≡ true
-    first_there x l rs t f ok = there_at rs t ok x.number f.place (Open x.deadline) f.number f.opened refl
+    first_there x l rs t f ok = grind (arith, there_at)
 
     -- and goes
     first_gone : (x : Due) (l : List Due) (rs : List Record) (t : Standing) → FirstDue c 1 rs x l → (f : held x.number (m.load t) ≡ true) → Sound rs t → (place : ℕ) → x.number ≡ 1 + place → state_at rs place ≡ Some (Open x.deadline) → Sound (mark rs place (Lapsed x.deadline)) (m.removed u t x.number)
@@ -90,9 +89,7 @@ module _ {Setup Standing : Type 0} (m : Meaning Setup Standing) (laws : Laws m) 
 
     -- the due numbers leave one by one
     leave_from : (l : List Due) (rs : List Record) (t v : Standing) → due c rs ≡ l → Leave m table u l t v → Sound rs t → Sound (lapses c rs) v
-    leave_from [] rs t v e g ok =
-        let s : lapses c rs ≡ rs = subst (λ l. Split c 1 rs l) e (due_split c 1 rs) in
-        subst (λ (x : List Record). Sound x v) (sym s) (subst (λ (x : Standing). Sound rs x) (sym g) ok)
+    leave_from [] rs t v e g ok = grind (arith, due_split)
     leave_from (x ∷ l) rs t v e g ok =
         let f : FirstDue c 1 rs x l = subst (λ l. Split c 1 rs l) e (due_split c 1 rs) in
         subst (λ (y : List Record). Sound y v) (lapses_mark c rs f.place x.deadline f.opened f.come)
@@ -104,14 +101,7 @@ module _ {Setup Standing : Type 0} (m : Meaning Setup Standing) (laws : Laws m) 
     -- each is held, so to take it where it is held is to remove it
     taken_from : (l : List Due) (rs : List Record) (t : Standing) → due c rs ≡ l → Sound rs t → Leave m table u l t (taken_all m u t l)
     taken_from [] rs t e ok = refl
-    taken_from (x ∷ l) rs t e ok =
-        let f : FirstDue c 1 rs x l = subst (λ l. Split c 1 rs l) e (due_split c 1 rs) in
-        let h : held x.number (m.load t) ≡ true = first_there x l rs t f ok in
-        let w : taken m u t x.number ≡ m.removed u t x.number = take_held t x.number h in (
-          h,
-          subst (λ (y : Standing). Leave m table u l (m.removed u t x.number) (taken_all m u y l)) (sym w)
-              (taken_from l (mark rs f.place (Lapsed x.deadline)) (m.removed u t x.number) f.rest (first_gone x l rs t f h ok f.place f.number f.opened)),
-        )
+    taken_from (x ∷ l) rs t e ok = grind (arith, due_split, first_there, first_gone, taken_from l)
 
     pub lapse_leaves : (rs : List Record) (t : Standing) → Sound rs t → Leave m table u (due c rs) t (taken_all m u t (due c rs))
     lapse_leaves rs t ok = taken_from (due c rs) rs t refl ok

@@ -1,8 +1,9 @@
 -- What a call is defined to answer and to leave is what the relation over histories and standings asks, where the fleet is in step.
-use Rattle.std.proofs.Common.{◌≡◌, ℕ, ◌<◌, ◌≤◌, Bool, true, false, cond, not, eqb, ltb, leb, List, [], ◌∷◌, ◌++◌, length, is_some, Some, None, Err, Option, sym, refl, ap, ◌∙◌, ⊎_elim, arith}
+use Rattle.std.proofs.Common.{◌≡◌, ℕ, ◌≤◌, Bool, true, false, cond, not, leb, List, [], ◌∷◌, ◌++◌, length, is_some, Some, None, Err, Option, sym, refl, ap, ◌∙◌, arith}
 use Rattle.std.specs.List.{slice_get}
-use Rattle.std.proofs.lemmas.Option.{slice_get_past as nth_past}
-use Rattle.std.proofs.lemmas.Bool.{cases_lt, eqb-false, ltb-false, or_parts}
+use Rattle.std.specs.Result.{result_err}
+use Rattle.std.proofs.lemmas.Option.{slice_get_within}
+use Rattle.std.proofs.lemmas.Bool.Decides.{nat_tests}
 use Rattle.stops.specs.declared.place.Place.{Place}
 use Rattle.stops.specs.declared.slot.Slot.{Slot}
 use Rattle.stops.specs.declared.stop.Stop.{Stop}
@@ -14,49 +15,45 @@ use Rattle.fleet.specs.Loads.{held}
 use Rattle.fleet.specs.Laws.{Laws}
 use Rattle.fleet.specs.Meaning.{Meaning, unless_objected}
 use Rattle.calls.specs.declared.call.Action.{Action}
-use Rattle.calls.specs.declared.call.Action.TheVariants.{Offer, Book, Confirm, Release, Withdraw, Tick}
+use Rattle.calls.specs.declared.call.Action.TheVariants.{Offer, Book, Release, Withdraw}
 use Rattle.calls.specs.declared.call.Call.{Call}
 use Rattle.calls.specs.declared.call.Request.{Request}
 use Rattle.calls.specs.declared.state.State.{State}
-use Rattle.calls.specs.declared.state.State.TheVariants.{Open, Confirmed}
 use Rattle.calls.specs.Answers.{Reply, refusal}
 use Rattle.calls.specs.Causes.{Code, action_rows, first, no_room, offer_rows, row, stop_rows, time_rows}
-use Rattle.calls.specs.Histories.{History, acted, added, next_number}
+use Rattle.calls.specs.Histories.{History, acted, next_number}
 use Rattle.calls.specs.Limits.{number_limit}
 use Rattle.calls.specs.Records.{holding, state_of}
 use Rattle.calls.specs.Requests.{stop_for, with_some}
 use Rattle.calls.specs.Steps.{Admits, Answered, Comes, Goes, Moves, at_once, in_turn, fully}
-use Rattle.calls.specs.Views.{View, act_leaves, act_reply, call_leaves, call_reply, done_by, failed, passed_to, place_next, success, taken, unless_refused, why, with_number}
+use Rattle.calls.specs.Views.{View, act_leaves, act_reply, call_leaves, call_reply, done_by, passed_to, place_next, success, taken, unless_refused, why, with_number}
 use Rattle.calls.proofs.Rows.{each_none, none_each, row_none, with_same}
 use Rattle.calls.proofs.Sound.{Sound, lapse_leaves, leave_sound, next_free, take_held, there}
 use Rattle.calls.proofs.Tales.{found_confirmed, found_open, told_at_once, told_by, told_fully, told_in_turn}
 
 -- ---- a request of which no row holds has a stop
 some_of : {X : Type 0} (o : Option X) → not (is_some o) ≡ false → (x : X) × (o ≡ Some x)
-some_of None e = let z : ◌≡◌ {A = ℕ} 0 1 = cc in absurd (omega arith)
+some_of None e = cc
 some_of (Some x) e = (x, refl)
-
-nth_within : {X : Type 0} (l : List X) (n : ℕ) (x : X) → slice_get l n ≡ Some x → n < length l
-nth_within l n x e = ⊎_elim (λ h. h) (λ h. let q = nth_past l n h in let z : ◌≡◌ {A = ℕ} 0 1 = cc in absurd (omega arith)) (cases_lt n (length l))
 
 pub wanted_stop : (table : List Slot) (q : Request) → length table ≤ slot_limit → first (stop_rows table q) ≡ None → (s : Stop) × (stop_for table q ≡ Some s)
 wanted_stop table q few e =
     let each = none_each (stop_rows table q) e in
     let p = some_of (place_of q.x q.y) (row_none 3 _ each.0) in
     let h = some_of (slice_get table q.slot) (row_none 5 _ each.1.1.0) in
-    let units = or_parts (eqb q.units 0) (ltb unit_limit q.units) (row_none 4 _ each.1.0) in
-    let a : q.slot ≤ last_slot = let w = nth_within table q.slot h.0 h.1 in omega arith in
-    let b : 1 ≤ q.units = ⊎_elim (λ z. z) (λ z. absurd (eqb-false q.units 0 units.0 (omega arith))) (cases_lt 0 q.units) in
-    let c : q.units ≤ unit_limit = ltb-false unit_limit q.units units.1 in
-    let made = stop_made q.slot q.units h.0 p.0 q.class a h.0.apart h.0.day b c in (
+    let units = row_none 4 _ each.1.0 in
+    let a : q.slot ≤ last_slot = let w = slice_get_within table q.slot h.0 h.1 in omega arith in
+    let b : 1 ≤ q.units = grind (arith, nat_tests) in
+    let c : q.units ≤ unit_limit = grind (arith, nat_tests) in
+    let made = stop_made q.slot q.units h.0 p.0 q.class a b c in (
       _,
       ap (λ (o : Option Place). with_some o (λ place. with_some (slice_get table q.slot) (λ hours. stop_of q.slot hours place q.units q.class))) p.1
           ∙ ap (λ (o : Option Slot). with_some o (λ hours. stop_of q.slot hours p.0 q.units q.class)) h.1 ∙ made,
     )
 
 -- where a number is not held, a place is refused just for the objection
-failed_place : (b : Bool) (o : Option ℕ) → b ≡ false → failed (cond b (Err (19, [])) (unless_objected o)) ≡ no_room o
-failed_place true o e = let z : ◌≡◌ {A = ℕ} 0 1 = cc in absurd (omega arith)
+failed_place : (b : Bool) (o : Option ℕ) → b ≡ false → result_err (cond b (Err (19, [])) (unless_objected o)) ≡ no_room o
+failed_place true o e = cc
 failed_place false None e = refl
 failed_place false (Some d) e = refl
 
@@ -82,10 +79,7 @@ module _ {Setup Standing : Type 0} (m : Meaning Setup Standing) (laws : Laws m) 
     same_rows : (a : Action) → why m b a ≡ first (action_rows b.table b.records against a)
     same_rows (Offer q) = same_offer q
     same_rows (Book q) = same_offer q
-    same_rows (Confirm n) = refl
-    same_rows (Release n) = refl
-    same_rows (Withdraw n) = refl
-    same_rows Tick = refl
+    same_rows _ = refl
 
     module _ (few : length b.table ≤ slot_limit) where
       comes : (q : Request) (s : State) → Admits m b.table b.setup (history_of b) b.standing (Offer q) → Comes m b.table b.setup (history_of b) q b.standing (with_number m b (stop_for b.table q) s).standing
@@ -106,35 +100,20 @@ module _ {Setup Standing : Type 0} (m : Meaning Setup Standing) (laws : Laws m) 
       moves : (a : Action) → Admits m b.table b.setup (history_of b) b.standing a → Moves m b.table b.setup (history_of b) a b.standing (done_by m b a).standing
       moves (Offer q) e = comes q _ e
       moves (Book q) e = comes q _ e
-      moves (Confirm n) e = refl
-      moves (Release n) e = let f = found_open m laws b.table b.setup b.records n e in goes n (Open f.0) f.1 refl
-      moves (Withdraw n) e = let f = found_confirmed m laws b.table b.setup b.records n e in goes n (Confirmed f.0) f.1 refl
-      moves Tick e = refl
-
-    with_number_history : (o : Option Stop) (s : State) → history_of (with_number m b o s) ≡ added (history_of b) o s
-    with_number_history None s = refl
-    with_number_history (Some x) s = refl
+      moves (Release n) e = grind (arith, found_open, goes)
+      moves (Withdraw n) e = grind (arith, found_confirmed, goes)
+      moves _ e = refl
 
     -- and the records as the history tells
     done_history : (a : Action) → acted b.table (history_of b) a (success b.table b.clock b.records a) ≡ history_of (done_by m b a)
-    done_history (Offer q) = sym (with_number_history (stop_for b.table q) _)
-    done_history (Book q) = sym (with_number_history (stop_for b.table q) _)
-    done_history (Confirm n) = refl
-    done_history (Release n) = refl
-    done_history (Withdraw n) = refl
-    done_history Tick = refl
-
-  with_number_kept : (b : View Setup Standing) (o : Option Stop) (s : State) → ((with_number m b o s).table ≡ b.table) × ((with_number m b o s).setup ≡ b.setup)
-  with_number_kept b None s = (refl, refl)
-  with_number_kept b (Some x) s = (refl, refl)
+    done_history (Offer q) = grind arith
+    done_history (Book q) = grind arith
+    done_history _ = refl
 
   done_kept : (b : View Setup Standing) (a : Action) → ((done_by m b a).table ≡ b.table) × ((done_by m b a).setup ≡ b.setup)
-  done_kept b (Offer q) = with_number_kept b (stop_for b.table q) _
-  done_kept b (Book q) = with_number_kept b (stop_for b.table q) _
-  done_kept b (Confirm n) = (refl, refl)
-  done_kept b (Release n) = (refl, refl)
-  done_kept b (Withdraw n) = (refl, refl)
-  done_kept b Tick = (refl, refl)
+  done_kept b (Offer q) = grind arith
+  done_kept b (Book q) = grind arith
+  done_kept b _ = (refl, refl)
 
   -- What a call with this reply comes to, from b to g.
   pub record Stepped (b : View Setup Standing) (c : Call) (a : Reply) (g : View Setup Standing) : Type 0 where

@@ -1,6 +1,5 @@
 -- What one call tells the history, by how it was answered.
-use Rattle.std.proofs.Common.{◌≡◌, ℕ, zero, suc, ◌+◌, Bool, true, false, cond, not, List, [], ◌∷◌, ◌++◌, length, is_some, Some, None, Option, sym, refl, ap, ◌∙◌, subst, append-nil, arith}
-use Rattle.std.proofs.lemmas.Bool.{cond-true, cond-false}
+use Rattle.std.proofs.Common.{◌≡◌, ℕ, zero, suc, ◌+◌, true, false, cond, List, [], ◌∷◌, ◌++◌, length, Some, None, Option, sym, refl, ap, ◌∙◌, subst, append-nil, arith}
 use Rattle.stops.specs.declared.slot.Slot.{Slot}
 use Rattle.stops.specs.declared.stop.Stop.{Stop}
 use Rattle.fleet.specs.Meaning.{Meaning}
@@ -11,78 +10,37 @@ use Rattle.calls.specs.declared.call.Call.{Call}
 use Rattle.calls.specs.declared.call.Request.{Request}
 use Rattle.calls.specs.declared.record.Record.{Record}
 use Rattle.calls.specs.declared.state.State.{State}
-use Rattle.calls.specs.declared.state.State.TheVariants.{Open, Confirmed, Released, Lapsed, Withdrawn}
+use Rattle.calls.specs.declared.state.State.TheVariants.{Open, Confirmed, Released, Withdrawn}
 use Rattle.calls.specs.Answers.{Reply, refusal}
-use Rattle.calls.specs.Causes.{Code, action_rows, first, no_room, offer_rows, row, time_rows}
+use Rattle.calls.specs.Causes.{Code, action_rows, first, no_room, time_rows}
 use Rattle.calls.specs.Histories.{History, acted, added, next_number, passed, untimely}
-use Rattle.calls.specs.Lapses.{lapsed, lapses}
-use Rattle.calls.specs.Records.{holding, is_confirmed, is_open, mark, mark_of, record_at, record_of, state_at, state_of}
-use Rattle.calls.specs.Requests.{stop_for, with_some}
+use Rattle.calls.specs.Lapses.{lapses}
+use Rattle.calls.specs.Records.{holding, mark, mark_of, record_at, record_of, state_at, state_of}
+use Rattle.calls.specs.Requests.{stop_for}
 use Rattle.calls.specs.Steps.{Admits, Answered, Comes, Moves, at_once, in_turn, fully}
 use Rattle.calls.specs.Theorem.{counting, number_in}
 use Rattle.calls.specs.Views.{success}
-use Rattle.calls.proofs.Marks.{confirmed_by, opened_by}
-use Rattle.calls.proofs.Rows.{first_each, none_each, of_room, of_row, of_some, room_none, second_row}
 use Rattle.calls.proofs.Sound.{Sound, come_sound, go_sound, leave_sound, stay_sound}
 
 -- one call and its reply, as `told` has them
 abbrev pub told_by : List Slot → History → Call → Reply → History
 told_by table h c a = cond (untimely a) h (acted table (passed c.minute h) c.action a)
 
--- ---- which refusals come at once
-abbrev Soon : Code → Type 0
-Soon k = untimely (refusal k) ≡ true
-
-abbrev Later : Code → Type 0
-Later k = untimely (refusal k) ≡ false
-
-soon : (clock minute : ℕ) (k : Code) → first (time_rows clock minute) ≡ Some k → Soon k
-soon clock minute k e = first_each Soon (time_rows clock minute) (of_row Soon 1 _ refl, (of_row Soon 2 _ refl, tt)) k e
-
-module _ (table : List Slot) (rs : List Record) (object : Stop → Option ℕ) where
-  later_offer : (q : Request) (k : Code) → first (offer_rows table rs (λ s. no_room (object s)) q) ≡ Some k → Later k
-  later_offer q k e =
-      first_each Later (offer_rows table rs (λ s. no_room (object s)) q)
-      (of_row Later 3 _ refl, (of_row Later 4 _ refl, (of_row Later 5 _ refl, (of_row Later 6 _ refl, (of_some Later (stop_for table q) _ (λ s. of_room Later (λ d. refl) (object s)), tt))))) k e
-
-  later_state : (j : ℕ) (s : Option State) (b : Bool) → Later (j, []) → (k : Code) → first (row 8 (not (is_some s)) ∷ (row j (not b) ∷ [])) ≡ Some k → Later k
-  later_state j s b p k e = first_each Later (row 8 (not (is_some s)) ∷ (row j (not b) ∷ [])) (of_row Later 8 (not (is_some s)) refl, (of_row Later j (not b) p, tt)) k e
-
-  pub later : (a : Action) (k : Code) → first (action_rows table rs (λ s. no_room (object s)) a) ≡ Some k → Later k
-  later (Offer q) k e = later_offer q k e
-  later (Book q) k e = later_offer q k e
-  later (Confirm n) k e = later_state 9 (state_of rs n) (is_open (state_of rs n)) refl k e
-  later (Release n) k e = later_state 9 (state_of rs n) (is_open (state_of rs n)) refl k e
-  later (Withdraw n) k e = later_state 10 (state_of rs n) (is_confirmed (state_of rs n)) refl k e
-  later Tick k e = let z : ◌≡◌ {A = ℕ} 0 1 = cc in absurd (omega arith)
-
 -- ---- what is told
-success_later : (table : List Slot) (c : ℕ) (rs : List Record) (a : Action) → untimely (success table c rs a) ≡ false
-success_later table c rs (Offer q) = refl
-success_later table c rs (Book q) = refl
-success_later table c rs (Confirm n) = refl
-success_later table c rs (Release n) = refl
-success_later table c rs (Withdraw n) = refl
-success_later table c rs Tick = refl
-
-acted_refused : (table : List Slot) (h : History) (a : Action) (k : Code) → acted table h a (refusal k) ≡ h
-acted_refused table h (Offer q) k = refl
-acted_refused table h (Book q) k = refl
-acted_refused table h (Confirm n) k = refl
-acted_refused table h (Release n) k = refl
-acted_refused table h (Withdraw n) k = refl
-acted_refused table h Tick k = refl
+-- a refusal of an action does not come at once
+later : (table : List Slot) (rs : List Record) (object : Stop → Option ℕ) (a : Action) (k : Code) → first (action_rows table rs (λ s. no_room (object s)) a) ≡ Some k → untimely (refusal k) ≡ false
+later table rs object Tick k e = cc
+later table rs object _ k e = grind arith
 
 module _ (table : List Slot) (h : History) (c : Call) where
   pub told_at_once : (a : Reply) (k : Code) → first (time_rows h.clock c.minute) ≡ Some k → a ≡ refusal k → told_by table h c a ≡ h
-  told_at_once a k e w = ap (told_by table h c) w ∙ cond-true _ _ _ (soon h.clock c.minute k e)
+  told_at_once a k e w = grind arith
 
   pub told_in_turn : (object : Stop → Option ℕ) (a : Reply) (k : Code) → first (action_rows table (passed c.minute h).records (λ s. no_room (object s)) c.action) ≡ Some k → a ≡ refusal k → told_by table h c a ≡ passed c.minute h
-  told_in_turn object a k e w =
-      ap (told_by table h c) w ∙ cond-false _ _ _ (later table (passed c.minute h).records object c.action k e) ∙ acted_refused table (passed c.minute h) c.action k
+  told_in_turn object a k e w = grind (arith, later)
 
   pub told_fully : (a : Reply) → a ≡ success table c.minute (passed c.minute h).records c.action → told_by table h c a ≡ acted table (passed c.minute h) c.action (success table c.minute (passed c.minute h).records c.action)
-  told_fully a w = ap (told_by table h c) w ∙ cond-false _ _ _ (success_later table c.minute (passed c.minute h).records c.action)
+  told_fully a w = grind arith
 
 -- ---- the numbers that are given
 counting_lapses : (c k : ℕ) (rs : List Record) → counting k (lapses c rs) ≡ counting k rs
@@ -99,23 +57,14 @@ counting_mark_of rs zero s = sym (append-nil (counting 1 rs))
 counting_mark_of rs (suc i) s = counting_mark 1 rs i s ∙ sym (append-nil (counting 1 rs))
 
 counting_push : (k : ℕ) (rs : List Record) (r : Record) → counting k (rs ++ r ∷ []) ≡ counting k rs ++ (length rs + k) ∷ []
-counting_push k [] r = ap (λ n. n ∷ []) (omega arith)
-counting_push k (x ∷ rs) r = ap (λ l. k ∷ l) (counting_push (suc k) rs r ∙ ap (λ n. counting (suc k) rs ++ n ∷ []) (omega arith))
+counting_push k [] r = grind arith
+counting_push k (x ∷ rs) r = grind (arith, counting_push (suc k) rs r)
 
 -- ---- what is settled stays
-lapsed_over : (c : ℕ) (s : State) → holding s ≡ false → lapsed c s ≡ s
-lapsed_over c (Open d) h = let z : ◌≡◌ {A = ℕ} 0 1 = cc in absurd (omega arith)
-lapsed_over c (Lapsed d) h = refl
-lapsed_over c (Confirmed d) h = refl
-lapsed_over c (Released d) h = refl
-lapsed_over c (Withdrawn d) h = refl
-
 module _ (r : Record) (over : holding r.state ≡ false) where
   lapse_at : (c : ℕ) (rs : List Record) (i : ℕ) → record_at rs i ≡ Some r → record_at (lapses c rs) i ≡ Some r
   lapse_at c [] i e = e
-  lapse_at c (x ∷ rs) zero e =
-      let w : x ≡ r = cc in
-      ap (λ (y : Record). Some (record { stop = y.stop; state = lapsed c y.state })) w ∙ ap (λ (s : State). Some (record { stop = r.stop; state = s })) (lapsed_over c r.state over)
+  lapse_at c (x ∷ rs) zero e = grind arith
   lapse_at c (x ∷ rs) (suc i) e = lapse_at c rs i e
 
   lapse_of : (c : ℕ) (rs : List Record) (n : ℕ) → record_of rs n ≡ Some r → record_of (lapses c rs) n ≡ Some r
@@ -123,7 +72,7 @@ module _ (r : Record) (over : holding r.state ≡ false) where
   lapse_of c rs (suc i) e = lapse_at c rs i e
 
   push_at : (rs : List Record) (x : Record) (i : ℕ) → record_at rs i ≡ Some r → record_at (rs ++ x ∷ []) i ≡ Some r
-  push_at [] x i e = let z : ◌≡◌ {A = ℕ} 0 1 = cc in absurd (omega arith)
+  push_at [] x i e = cc
   push_at (y ∷ rs) x zero e = e
   push_at (y ∷ rs) x (suc i) e = push_at rs x i e
 
@@ -133,34 +82,26 @@ module _ (r : Record) (over : holding r.state ≡ false) where
   push_of h (Some x) s (suc i) e = push_at h.records _ i e
 
   mark_at : (rs : List Record) (j i : ℕ) (s s' : State) → state_at rs j ≡ Some s → holding s ≡ true → record_at rs i ≡ Some r → record_at (mark rs j s') i ≡ Some r
-  mark_at [] j i s s' a h e = e
-  mark_at (x ∷ rs) zero zero s s' a h e =
-      let w : x ≡ r = cc in
-      let v : x.state ≡ s = cc in
-      let q : false ≡ true = sym over ∙ ap (λ (y : Record). holding y.state) (sym w) ∙ ap holding v ∙ h in
-      let z : ◌≡◌ {A = ℕ} 0 1 = cc in absurd (omega arith)
-  mark_at (x ∷ rs) zero (suc i) s s' a h e = e
-  mark_at (x ∷ rs) (suc j) zero s s' a h e = e
+  mark_at (x ∷ rs) zero zero s s' a h e = grind arith
   mark_at (x ∷ rs) (suc j) (suc i) s s' a h e = mark_at rs j i s s' a h e
+  mark_at rs j i s s' a h e = e
 
   mark_of_number : (rs : List Record) (j n : ℕ) (s s' : State) → state_of rs j ≡ Some s → holding s ≡ true → record_of rs n ≡ Some r → record_of (mark_of rs j s') n ≡ Some r
   mark_of_number rs zero n s s' a h e = e
-  mark_of_number rs (suc j) zero s s' a h e = let z : ◌≡◌ {A = ℕ} 0 1 = cc in absurd (omega arith)
+  mark_of_number rs (suc j) zero s s' a h e = cc
   mark_of_number rs (suc j) (suc i) s s' a h e = mark_at rs j i s s' a h e
 
 module _ {Setup Standing : Type 0} (m : Meaning Setup Standing) (laws : Laws m) (table : List Slot) (u : Setup) where
   -- an open number, a confirmed one, as the rows want it
   pub found_open : (rs : List Record) (n : ℕ) → first (action_rows table rs (λ s. None) (Confirm n)) ≡ None → (d : ℕ) × (state_of rs n ≡ Some (Open d))
-  found_open rs n e = opened_by (state_of rs n) (second_row 8 9 (is_some (state_of rs n)) (is_open (state_of rs n)) e)
+  found_open rs n e = grind arith
 
   pub found_confirmed : (rs : List Record) (n : ℕ) → first (action_rows table rs (λ s. None) (Withdraw n)) ≡ None → (d : ℕ) × (state_of rs n ≡ Some (Confirmed d))
-  found_confirmed rs n e = confirmed_by (state_of rs n) (second_row 8 10 (is_some (state_of rs n)) (is_confirmed (state_of rs n)) e)
+  found_confirmed rs n e = grind arith
 
   -- the fleet had nothing against the stop
   unobjected : (h : History) (w : Standing) (q : Request) (s : Stop) → Admits m table u h w (Offer q) → stop_for table q ≡ Some s → m.objection u w s ≡ None
-  unobjected h w q s e o =
-      let row = (none_each (offer_rows table h.records (λ s. no_room (m.objection u w s)) q) e).1.1.1.1.0 in
-      room_none (m.objection u w s) (subst (λ (x : Option Stop). with_some x (λ s. no_room (m.objection u w s)) ≡ None) o row)
+  unobjected h w q s e o = grind arith
 
   come : (h : History) (w v : Standing) (q : Request) (st : State) → holding st ≡ true → Sound m laws table u h.records w → Admits m table u h w (Offer q) → Comes m table u h q w v → Sound m laws table u (added h (stop_for table q) st).records v
   come h w v q st k ok e g =
@@ -174,12 +115,11 @@ module _ {Setup Standing : Type 0} (m : Meaning Setup Standing) (laws : Laws m) 
   act_sound h w v (Confirm n) ok e g = let f = found_open h.records n e in subst (λ (x : Standing). Sound m laws table u (mark_of h.records n (Confirmed h.clock)) x) (sym g) (stay_sound m laws table u h.records w n (Open f.0) (Confirmed h.clock) ok f.1 refl)
   act_sound h w v (Release n) ok e g = let f = found_open h.records n e in go_sound m laws table u h.records w v n (Open f.0) (Released h.clock) ok f.1 refl g
   act_sound h w v (Withdraw n) ok e g = let f = found_confirmed h.records n e in go_sound m laws table u h.records w v n (Confirmed f.0) (Withdrawn h.clock) ok f.1 refl g
-  act_sound h w v Tick ok e g = subst (λ (x : Standing). Sound m laws table u h.records x) (sym g) ok
+  act_sound h w v Tick ok e g = grind arith
 
   -- the fleet stays in step over a call
   pub step_sound : (h : History) (t : Standing) (c : Call) (a : Reply) (v : Standing) → Answered m table u h t c a v → Sound m laws table u h.records t → Sound m laws table u (told_by table h c a).records v
-  step_sound h t c a v (at_once k e w g) ok =
-      subst (λ (x : History). Sound m laws table u x.records v) (sym (told_at_once table h c a k e w)) (subst (λ (x : Standing). Sound m laws table u h.records x) (sym g) ok)
+  step_sound h t c a v (at_once k e w g) ok = grind arith
   step_sound h t c a v (in_turn k e l r w) ok =
       subst (λ (x : History). Sound m laws table u x.records v) (sym (told_in_turn table h c (m.objection u v) a k r w)) (leave_sound m laws table u c.minute h.records t v l ok)
   step_sound h t c a v (fully s e l n w g) ok =
@@ -190,15 +130,13 @@ module _ {Setup Standing : Type 0} (m : Meaning Setup Standing) (laws : Laws m) 
   Counts h a g = counting 1 g.records ≡ counting 1 h.records ++ number_in a
 
   come_counts : (h : History) (w v : Standing) (q : Request) (st : State) → Comes m table u h q w v → counting 1 (added h (stop_for table q) st).records ≡ counting 1 h.records ++ next_number h.records ∷ []
-  come_counts h w v q st g = subst (λ (x : Option Stop). counting 1 (added h x st).records ≡ counting 1 h.records ++ next_number h.records ∷ []) (sym g.offered) (counting_push 1 h.records _)
+  come_counts h w v q st g = grind (arith, counting_push)
 
   act_counts : (h : History) (w v : Standing) (a : Action) → Moves m table u h a w v → Counts h (success table h.clock h.records a) (acted table h a (success table h.clock h.records a))
   act_counts h w v (Offer q) g = come_counts h w v q _ g
   act_counts h w v (Book q) g = come_counts h w v q _ g
-  act_counts h w v (Confirm n) g = counting_mark_of h.records n _
-  act_counts h w v (Release n) g = counting_mark_of h.records n _
-  act_counts h w v (Withdraw n) g = counting_mark_of h.records n _
   act_counts h w v Tick g = sym (append-nil (counting 1 h.records))
+  act_counts h w v _ g = grind (arith, counting_mark_of)
 
   passed_counts : (minute : ℕ) (h : History) → counting 1 (passed minute h).records ≡ counting 1 h.records
   passed_counts minute h = counting_lapses minute 1 h.records
@@ -208,22 +146,18 @@ module _ {Setup Standing : Type 0} (m : Meaning Setup Standing) (laws : Laws m) 
   step_counts h t c a v (at_once k e w g) = ap (λ (x : History). counting 1 x.records) (told_at_once table h c a k e w) ∙ sym (append-nil (counting 1 h.records)) ∙ sym (ap (λ x. counting 1 h.records ++ number_in x) w)
   step_counts h t c a v (in_turn k e l r w) =
       ap (λ (x : History). counting 1 x.records) (told_in_turn table h c (m.objection u v) a k r w) ∙ passed_counts c.minute h ∙ sym (append-nil (counting 1 h.records)) ∙ sym (ap (λ x. counting 1 h.records ++ number_in x) w)
-  step_counts h t c a v (fully s e l n w g) =
-      ap (λ (x : History). counting 1 x.records) (told_fully table h c a w) ∙ act_counts (passed c.minute h) s v c.action g
-      ∙ ap (λ x. x ++ number_in (success table c.minute (passed c.minute h).records c.action)) (passed_counts c.minute h) ∙ sym (ap (λ x. counting 1 h.records ++ number_in x) w)
+  step_counts h t c a v (fully s e l n w g) = grind (arith, act_counts, passed_counts)
 
   -- ---- settled numbers
   module _ (r : Record) (over : holding r.state ≡ false) (n : ℕ) where
     act_settled : (h : History) (w : Standing) (a : Action) → Admits m table u h w a → record_of h.records n ≡ Some r → record_of (acted table h a (success table h.clock h.records a)).records n ≡ Some r
-    act_settled h w (Offer q) e k = push_of r over h (stop_for table q) _ n k
-    act_settled h w (Book q) e k = push_of r over h (stop_for table q) _ n k
-    act_settled h w (Confirm j) e k = let f = found_open h.records j e in mark_of_number r over h.records j n (Open f.0) (Confirmed h.clock) f.1 refl k
-    act_settled h w (Release j) e k = let f = found_open h.records j e in mark_of_number r over h.records j n (Open f.0) (Released h.clock) f.1 refl k
-    act_settled h w (Withdraw j) e k = let f = found_confirmed h.records j e in mark_of_number r over h.records j n (Confirmed f.0) (Withdrawn h.clock) f.1 refl k
+    act_settled h w (Offer q) e k = grind (arith, push_of)
+    act_settled h w (Book q) e k = grind (arith, push_of)
     act_settled h w Tick e k = k
+    act_settled h w _ e k = grind (arith, mark_of_number)
 
     -- a number that is released, lapsed or withdrawn keeps its record over a call
     pub step_settled : (h : History) (t : Standing) (c : Call) (a : Reply) (v : Standing) → Answered m table u h t c a v → record_of h.records n ≡ Some r → record_of (told_by table h c a).records n ≡ Some r
-    step_settled h t c a v (at_once k e w g) f = ap (λ (x : History). record_of x.records n) (told_at_once table h c a k e w) ∙ f
-    step_settled h t c a v (in_turn k e l q w) f = ap (λ (x : History). record_of x.records n) (told_in_turn table h c (m.objection u v) a k q w) ∙ lapse_of r over c.minute h.records n f
+    step_settled h t c a v (at_once k e w g) f = grind arith
+    step_settled h t c a v (in_turn k e l q w) f = grind (arith, lapse_of)
     step_settled h t c a v (fully s e l o w g) f = ap (λ (x : History). record_of x.records n) (told_fully table h c a w) ∙ act_settled (passed c.minute h) s c.action o (lapse_of r over c.minute h.records n f)

@@ -1,6 +1,8 @@
 -- The whole theorem, from how the run goes; for an opened book, and from call to call.
-use Rattle.std.proofs.Common.{◌≡◌, ℕ, zero, suc, ◌+◌, ◌≤◌, true, false, List, [], ◌∷◌, ◌++◌, length, Some, sym, refl, ap, ◌∙◌, subst, append_assoc, append-nil, arith}
+use Rattle.std.proofs.Common.{◌≡◌, ℕ, zero, suc, ◌+◌, ◌≤◌, true, false, List, [], ◌∷◌, ◌++◌, length, Some, Result, sym, refl, ap, ◌∙◌, subst, append_assoc, append-nil, arith}
 use mathlib.Core.List.Perm
+use Rattle.std.proofs.lemmas.Bool.{or_right}
+use Rattle.stops.specs.declared.refusal.Refusal.{Refusal}
 use Rattle.stops.specs.declared.slot.Slot.{Slot}
 use Rattle.stops.specs.Limits.{slot_limit}
 use Rattle.fleet.specs.Laws.{Laws, Within}
@@ -9,11 +11,9 @@ use Rattle.calls.specs.declared.answer.Answer.{Answer}
 use Rattle.calls.specs.declared.call.Call.{Call}
 use Rattle.calls.specs.declared.entry.Entry.{Entry}
 use Rattle.calls.specs.declared.record.Record.{Record}
-use Rattle.calls.specs.declared.state.State.{State}
-use Rattle.calls.specs.declared.state.State.TheVariants.{Open, Confirmed, Released, Lapsed, Withdrawn}
 use Rattle.calls.specs.Answers.{Reply, reply}
 use Rattle.calls.specs.Histories.{History, begun, history, onward, told}
-use Rattle.calls.specs.Records.{holding, is_confirmed, record_of}
+use Rattle.calls.specs.Records.{holding, is_confirmed, is_open, record_of}
 use Rattle.calls.specs.Steps.{Answered, Follows}
 use Rattle.calls.specs.Theorem.{Theorem, counting, number_in, numbers_in}
 use Rattle.calls.specs.Views.{View, call_leaves, call_reply, opened}
@@ -22,17 +22,10 @@ use Rattle.calls.proofs.Sound.{Sound, begun_sound}
 use Rattle.calls.proofs.Steps.{Stepped, call_steps, history_of}
 use Rattle.calls.proofs.Tales.{step_counts, step_settled, step_sound}
 
-confirmed_holds : (s : State) → is_confirmed (Some s) ≡ true → holding s ≡ true
-confirmed_holds (Open d) h = refl
-confirmed_holds (Lapsed d) h = h
-confirmed_holds (Confirmed d) h = refl
-confirmed_holds (Released d) h = h
-confirmed_holds (Withdrawn d) h = h
-
 module _ {Setup Standing : Type 0} (m : Meaning Setup Standing) (laws : Laws m) (table : List Slot) (u : Setup) where
   -- ---- over a whole log
   run_sound : (log : List Entry) (h : History) (t v : Standing) → Follows m table u h t log v → Sound m laws table u h.records t → Sound m laws table u (onward table h log).records v
-  run_sound [] h t v f ok = subst (λ (x : Standing). Sound m laws table u h.records x) (sym f) ok
+  run_sound [] h t v f ok = grind arith
   run_sound (e ∷ log) h t v f ok = run_sound log (told table h e) f.0 v f.2 (step_sound m laws table u h t e.call (reply e.answer) f.0 f.1 ok)
 
   run_counts : (log : List Entry) (h : History) (t v : Standing) → Follows m table u h t log v → counting 1 h.records ++ numbers_in log ≡ counting 1 (onward table h log).records
@@ -60,10 +53,10 @@ module _ {Setup Standing : Type 0} (m : Meaning Setup Standing) (laws : Laws m) 
   run_more (x ∷ log) e h t w v f a = (f.0, f.1, run_more log e (told table h x) f.0 w v f.2 a)
 
   seen_by : (t : Standing) (rs : List Record) → Sound m laws table u rs t → m.routed ≡ true → (n : ℕ) (r : Record) → record_of rs n ≡ Some r → is_confirmed (Some r.state) ≡ true → Within r.stop (m.visit u t n)
-  seen_by t rs ok y zero r e h = let z : ◌≡◌ {A = ℕ} 0 1 = cc in absurd (omega arith)
+  seen_by t rs ok y zero r e h = cc
   seen_by t rs ok y (suc i) r e h =
       let k : 1 + i ≡ suc i = omega arith in
-      subst (λ n. Within r.stop (m.visit u t n)) k (laws.visits u t (1 + i) r.stop y ok.reached ((Perm.mem_iff ok.linked).1 (held_mem 1 i rs r e (confirmed_holds r.state h))))
+      subst (λ n. Within r.stop (m.visit u t n)) k (laws.visits u t (1 + i) r.stop y ok.reached ((Perm.mem_iff ok.linked).1 (held_mem 1 i rs r e (or_right (is_open (Some r.state)) (is_confirmed (Some r.state)) h))))
 
   -- the theorem follows from how the run goes
   pub whole : (log : List Entry) (b : View Setup Standing) → b.table ≡ table → b.setup ≡ u → history_of m laws b ≡ history table log → Follows m table u begun (m.cleared u) log b.standing → Theorem m table u log b
@@ -92,7 +85,7 @@ module _ {Setup Standing : Type 0} (m : Meaning Setup Standing) (laws : Laws m) 
 
 module _ {Setup Standing : Type 0} (m : Meaning Setup Standing) (laws : Laws m) where
   -- over the book's own table and set-up
-  own_passes : (b g : View Setup Standing) (c : Call) (a : Answer) (log : List Entry) → length b.table ≤ slot_limit → reply a ≡ call_reply m b c → g ≡ call_leaves m b c → Theorem m b.table b.setup log b → Theorem m b.table b.setup (log ++ record { call = c; answer = a } ∷ []) g
+  own_passes : (b g : View Setup Standing) (c : Call) (a : Result Answer Refusal) (log : List Entry) → length b.table ≤ slot_limit → reply a ≡ call_reply m b c → g ≡ call_leaves m b c → Theorem m b.table b.setup log b → Theorem m b.table b.setup (log ++ record { call = c; answer = a } ∷ []) g
   own_passes b g c a log few ea eg t =
       let eh : history_of m laws b ≡ history b.table log = λ i. record { clock = t.clocked i; records = t.recorded i } in
       let ok : Sound m laws b.table b.setup b.records b.standing = subst (λ (h : History). Sound m laws b.table b.setup h.records b.standing) (sym eh) (run_sound m laws b.table b.setup log begun (m.cleared b.setup) b.standing t.answered (begun_sound m laws b.table b.setup)) in
@@ -104,7 +97,7 @@ module _ {Setup Standing : Type 0} (m : Meaning Setup Standing) (laws : Laws m) 
       (subst (λ (h : History). Answered m b.table b.setup h b.standing c (reply a) g.standing) eh s.answered))
 
   -- what holds for a log passes on to the log with one more call and its answer
-  pub passes : (b g : View Setup Standing) (c : Call) (a : Answer) → length b.table ≤ slot_limit → reply a ≡ call_reply m b c → g ≡ call_leaves m b c → (table : List Slot) (u : Setup) (log : List Entry) → Theorem m table u log b → Theorem m table u (log ++ record { call = c; answer = a } ∷ []) g
+  pub passes : (b g : View Setup Standing) (c : Call) (a : Result Answer Refusal) → length b.table ≤ slot_limit → reply a ≡ call_reply m b c → g ≡ call_leaves m b c → (table : List Slot) (u : Setup) (log : List Entry) → Theorem m table u log b → Theorem m table u (log ++ record { call = c; answer = a } ∷ []) g
   passes b g c a few ea eg table u log t =
       subst (λ (x : List Slot). Theorem m x u (log ++ record { call = c; answer = a } ∷ []) g) t.kept.0
       (subst (λ (x : Setup). Theorem m b.table x (log ++ record { call = c; answer = a } ∷ []) g) t.kept.1

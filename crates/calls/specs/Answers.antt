@@ -3,14 +3,14 @@ use Rattle.std.specs.Prelude.{ℕ, List, [], ◌∷◌, ◌++◌, Ok, Err, codes
 use Rattle.stops.specs.declared.refusal.Refusal.{Refusal}
 use Rattle.stops.specs.Refusals.{refused, text}
 use Rattle.calls.specs.declared.answer.Answer.{Answer}
-use Rattle.calls.specs.declared.answer.Answer.TheVariants.{Offered, Booked, Done, Refused}
+use Rattle.calls.specs.declared.answer.Answer.TheVariants.{Offered, Booked, Done}
 
 -- the number and the deadline of an offer, the number of a booking, nothing for a call that is done; a refusal by number and values
-abbrev pub answer_code : Answer → Result (List ℕ) (ℕ × List ℕ)
-answer_code (Offered number until) = Ok (number ∷ (until ∷ []))
-answer_code (Booked number) = Ok (number ∷ [])
-answer_code Done = Ok []
-answer_code (Refused e) = Err (refused e)
+abbrev pub answer_code : Result Answer Refusal → Result (List ℕ) (ℕ × List ℕ)
+answer_code (Ok (Offered number until)) = Ok (number ∷ (until ∷ []))
+answer_code (Ok (Booked number)) = Ok (number ∷ [])
+answer_code (Ok Done) = Ok []
+answer_code (Err e) = Err (refused e)
 
 -- What a call is told: the number and the deadline of an offer, the number of a booking, that it is done, or a refusal by its number and values.
 pub data Reply : Type 0 where
@@ -19,24 +19,31 @@ pub data Reply : Type 0 where
   done : Reply
   refusal : ℕ × List ℕ → Reply
 
-abbrev pub reply : Answer → Reply
-reply (Offered number until) = offer number until
-reply (Booked number) = booked number
-reply Done = done
-reply (Refused e) = refusal (refused e)
+abbrev pub reply : Result Answer Refusal → Reply
+reply (Ok (Offered number until)) = offer number until
+reply (Ok (Booked number)) = booked number
+reply (Ok Done) = done
+reply (Err e) = refusal (refused e)
+
+-- what is made of a value, unless there was a refusal
+abbrev pub result_map : {X Y E : Type 0} → (X → Y) → Result X E → Result Y E
+result_map f (Ok x) = Ok (f x)
+result_map f (Err e) = Err e
 
 -- the answer of a call that gives a number, and of one that gives nothing
-abbrev pub booked_or : Result ℕ Refusal → Answer
-booked_or (Ok n) = Booked n
-booked_or (Err e) = Refused e
+abbrev pub booked_or : Result ℕ Refusal → Result Answer Refusal
+booked_or r = result_map Booked r
 
-abbrev pub done_or : Result (Unit {0}) Refusal → Answer
-done_or (Ok x) = Done
-done_or (Err e) = Refused e
+abbrev pub done_or : Result (Unit {0}) Refusal → Result Answer Refusal
+done_or r = result_map (λ x. Done) r
 
--- what is written of an answer
-abbrev pub answer_text : Answer → List ℕ
-answer_text (Offered number until) = codes "offer " ++ (decimal number ++ (codes " until " ++ decimal until))
-answer_text (Booked number) = codes "booked " ++ decimal number
-answer_text Done = codes "done"
-answer_text (Refused e) = text e
+-- what is written of an answer that is no refusal
+abbrev pub success_text : Answer → List ℕ
+success_text (Offered number until) = codes "offer " ++ (decimal number ++ (codes " until " ++ decimal until))
+success_text (Booked number) = codes "booked " ++ decimal number
+success_text Done = codes "done"
+
+-- and of any answer
+abbrev pub answer_text : Result Answer Refusal → List ℕ
+answer_text (Ok a) = success_text a
+answer_text (Err e) = text e

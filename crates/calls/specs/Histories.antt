@@ -43,28 +43,20 @@ marked h n s = record { clock = h.clock; records = mark_of h.records n s }
 -- what is so by an answer that is an offer, and what else; the same of a booking, and of an answer that is done
 abbrev pub by_offer : {X : Type 0} → Reply → X → X → X
 by_offer (offer n d) new old = new
-by_offer (booked n) new old = old
-by_offer done new old = old
-by_offer (refusal k) new old = old
+by_offer _ new old = old
 
 abbrev pub by_booking : {X : Type 0} → Reply → X → X → X
-by_booking (offer n d) new old = old
 by_booking (booked n) new old = new
-by_booking done new old = old
-by_booking (refusal k) new old = old
+by_booking _ new old = old
 
 abbrev pub by_done : {X : Type 0} → Reply → X → X → X
-by_done (offer n d) new old = old
-by_done (booked n) new old = old
 by_done done new old = new
-by_done (refusal k) new old = old
+by_done _ new old = old
 
 -- refused with 1 or 2
 abbrev pub untimely : Reply → Bool
-untimely (offer n d) = false
-untimely (booked n) = false
-untimely done = false
 untimely (refusal k) = k.0 == 1 || k.0 == 2
+untimely _ = false
 
 module _ (table : List Slot) where
   -- what the answer to an action tells, once the clock is set and the due numbers have lapsed: a refusal or a tick tells no more

@@ -3,15 +3,12 @@ use Rattle.std.specs.Prelude.{ℕ, suc, cond, List, [], ◌∷◌, nat_le}
 use Rattle.queue.specs.declared.due.Due.{Due}
 use Rattle.calls.specs.declared.record.Record.{Record}
 use Rattle.calls.specs.declared.state.State.{State}
-use Rattle.calls.specs.declared.state.State.TheVariants.{Open, Confirmed, Released, Lapsed, Withdrawn}
+use Rattle.calls.specs.declared.state.State.TheVariants.{Open, Lapsed}
 
 -- an open number whose deadline has come lapses, with that deadline
 abbrev pub lapsed : ℕ → State → State
 lapsed minute (Open d) = cond (nat_le d minute) (Lapsed d) (Open d)
-lapsed minute (Confirmed m) = Confirmed m
-lapsed minute (Released m) = Released m
-lapsed minute (Lapsed d) = Lapsed d
-lapsed minute (Withdrawn m) = Withdrawn m
+lapsed minute s = s
 
 -- all of them
 abbrev pub lapses : ℕ → List Record → List Record
@@ -26,10 +23,7 @@ insert d n (x ∷ l) = cond (nat_le d x.deadline) (record { deadline = d; number
 -- the same if the number is open and due
 abbrev pub with_due : ℕ → State → ℕ → List Due → List Due
 with_due minute (Open d) n l = cond (nat_le d minute) (insert d n l) l
-with_due minute (Confirmed m) n l = l
-with_due minute (Released m) n l = l
-with_due minute (Lapsed m) n l = l
-with_due minute (Withdrawn m) n l = l
+with_due minute _ n l = l
 
 -- the due numbers in order of deadline and number, where the first record is that of number k
 abbrev pub due_from : ℕ → ℕ → List Record → List Due

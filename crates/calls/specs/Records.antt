@@ -1,16 +1,15 @@
 -- The records of a book as a list: that of number n stands at place n - 1.
 use Rattle.std.specs.Prelude.{ℕ, zero, suc, Bool, true, false, cond, ◌||◌, List, [], ◌∷◌, Some, None, Option}
+use Rattle.std.specs.List.{slice_get}
 use Rattle.std.specs.Option.{option_map}
 use Rattle.fleet.specs.Loads.{Load}
 use Rattle.calls.specs.declared.record.Record.{Record}
 use Rattle.calls.specs.declared.state.State.{State}
-use Rattle.calls.specs.declared.state.State.TheVariants.{Open, Confirmed, Released, Lapsed, Withdrawn}
+use Rattle.calls.specs.declared.state.State.TheVariants.{Open, Confirmed}
 
 -- by place
 abbrev pub record_at : List Record → ℕ → Option Record
-record_at [] i = None
-record_at (r ∷ rs) zero = Some r
-record_at (r ∷ rs) (suc i) = record_at rs i
+record_at rs i = slice_get rs i
 
 abbrev pub state_at : List Record → ℕ → Option State
 state_at rs i = option_map (λ r. r.state) (record_at rs i)
@@ -36,20 +35,12 @@ mark_of rs (suc i) s = mark rs i s
 
 -- whether a number in this state is open, or confirmed; a number that was not given is neither
 abbrev pub is_open : Option State → Bool
-is_open None = false
 is_open (Some (Open d)) = true
-is_open (Some (Confirmed m)) = false
-is_open (Some (Released m)) = false
-is_open (Some (Lapsed d)) = false
-is_open (Some (Withdrawn m)) = false
+is_open _ = false
 
 abbrev pub is_confirmed : Option State → Bool
-is_confirmed None = false
-is_confirmed (Some (Open d)) = false
 is_confirmed (Some (Confirmed m)) = true
-is_confirmed (Some (Released m)) = false
-is_confirmed (Some (Lapsed d)) = false
-is_confirmed (Some (Withdrawn m)) = false
+is_confirmed _ = false
 
 -- whether its stop is with the fleet: it is open or confirmed
 abbrev pub holding : State → Bool

@@ -1,5 +1,6 @@
 -- What can be seen of a book, and what each call answers and leaves of it.
-use Rattle.std.specs.Prelude.{ℕ, List, [], ◌∷◌, ◌++◌, Some, None, Ok, Err, Option, Result}
+use Rattle.std.specs.Prelude.{ℕ, List, [], ◌∷◌, ◌++◌, Some, None, Option}
+use Rattle.std.specs.Result.{result_err}
 use Rattle.stops.specs.declared.slot.Slot.{Slot}
 use Rattle.stops.specs.declared.stop.Stop.{Stop}
 use Rattle.queue.specs.declared.due.Due.{Due}
@@ -30,11 +31,6 @@ pub record View (Setup Standing : Type 0) : Type 0 where
 abbrev pub unless_refused : {X : Type 0} → Option Code → (Code → X) → X → X
 unless_refused None f x = x
 unless_refused (Some k) f x = f k
-
--- why a fleet refused, if it did
-abbrev pub failed : {X : Type 0} → Result X Code → Option Code
-failed (Ok x) = None
-failed (Err k) = Some k
 
 -- the reply to an action that is not refused, in a book with this table, clock and records
 abbrev pub success : List Slot → ℕ → List Record → Action → Reply
@@ -83,7 +79,7 @@ module _ {Setup Standing : Type 0} (m : Meaning Setup Standing) where
 
   -- what the fleet answers if a stop is placed under the next number
   abbrev pub place_next : View Setup Standing → Stop → Option Code
-  place_next b s = failed (place_answer m b.setup b.standing (next_number b.records) s)
+  place_next b s = result_err (place_answer m b.setup b.standing (next_number b.records) s)
 
   -- why an action is refused, once the clock is set and the due numbers have lapsed
   abbrev pub why : View Setup Standing → Action → Option Code

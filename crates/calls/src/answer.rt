@@ -1,10 +1,9 @@
 ghost use Rattle.std.specs.Prelude.{Some};
-ghost use Rattle.calls.specs.Answers.{answer_text};
+ghost use Rattle.calls.specs.Answers.{success_text};
 
 use std::fmt;
-use stops::refusal::Refusal;
 
-// What a call is answered.
+// What a call is answered that is not refused.
 #[derive(Clone, Copy, PartialEq, Eq, Debug)]
 pub enum Answer {
     // the number is held until the deadline
@@ -12,18 +11,16 @@ pub enum Answer {
     // the number is confirmed at once
     Booked(u16),
     Done,
-    Refused(Refusal),
 }
 
 impl fmt::Display for Answer {
-    ghost output = { λ a. Some (answer_text a) };
+    ghost output = { λ a. Some (success_text a) };
 
     fn fmt<W: fmt::Write>(&self, f: &mut fmt::Formatter<W>) -> fmt::Result {
         match *self {
             Answer::Offered { number, until } => write!(f, "offer {number} until {until}"),
             Answer::Booked(number) => write!(f, "booked {number}"),
             Answer::Done => f.write_str("done"),
-            Answer::Refused(refusal) => write!(f, "{refusal}"),
         }
     }
 }

@@ -21,11 +21,21 @@ impl State {
         ensures { result ≡ state_minute self.now }
     {
         match *self {
-            State::Open(deadline) => deadline,
-            State::Confirmed(minute) => minute,
-            State::Released(minute) => minute,
-            State::Lapsed(deadline) => deadline,
-            State::Withdrawn(minute) => minute,
+            State::Open(deadline) | State::Lapsed(deadline) => deadline,
+            State::Confirmed(minute) | State::Released(minute) | State::Withdrawn(minute) => minute,
+        }
+    }
+
+    // The word that is written of it.
+    pub const fn word(&self) -> &'static str
+        ensures { result.now ≡ word self.now }
+    {
+        match *self {
+            State::Open(_) => "open",
+            State::Confirmed(_) => "confirmed",
+            State::Released(_) => "released",
+            State::Lapsed(_) => "lapsed",
+            State::Withdrawn(_) => "withdrawn",
         }
     }
 }
@@ -34,12 +44,6 @@ impl fmt::Display for State {
     ghost output = { λ s. Some (word s) };
 
     fn fmt<W: fmt::Write>(&self, f: &mut fmt::Formatter<W>) -> fmt::Result {
-        match *self {
-            State::Open(_) => f.write_str("open"),
-            State::Confirmed(_) => f.write_str("confirmed"),
-            State::Released(_) => f.write_str("released"),
-            State::Lapsed(_) => f.write_str("lapsed"),
-            State::Withdrawn(_) => f.write_str("withdrawn"),
-        }
+        f.write_str(self.word())
     }
 }

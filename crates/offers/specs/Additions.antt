@@ -3,7 +3,7 @@ use Rattle.std.specs.Prelude.{ℕ, ◌+◌, Bool, false, cond, List, [], ◌∷�
 use Rattle.stops.specs.Refusals.{and_then}
 use Rattle.calls.specs.declared.record.Record.{Record}
 use Rattle.calls.specs.declared.state.State.{State}
-use Rattle.calls.specs.declared.state.State.TheVariants.{Open, Confirmed, Released, Lapsed, Withdrawn}
+use Rattle.calls.specs.declared.state.State.TheVariants.{Open}
 use Rattle.calls.specs.Limits.{number_limit}
 
 -- the next number; 6 where all were given
@@ -13,10 +13,7 @@ number_answer rs = cond (nat_le number_limit (length rs)) (Err (6, [])) (Ok (len
 -- open, with a deadline that is not after the clock
 abbrev pub overdue : ℕ → State → Bool
 overdue clock (Open d) = nat_le d clock
-overdue clock (Confirmed m) = false
-overdue clock (Released m) = false
-overdue clock (Lapsed m) = false
-overdue clock (Withdrawn m) = false
+overdue clock _ = false
 
 -- the number that a record gets; 6 where all were given, 17 where it is overdue
 abbrev pub add_answer : List Record → ℕ → Record → Result ℕ (ℕ × List ℕ)

@@ -1,8 +1,6 @@
 -- The due entries of a book.
-use Rattle.std.specs.Prelude.{◌≡◌, List, [], ◌∷◌, Some, None, Ok, Err, Option, Result}
+use Rattle.std.specs.Prelude.{◌≡◌, List, [], ◌∷◌, Some, None, Option}
 use mathlib.Core.List.{Perm}
-use Rattle.stops.specs.declared.refusal.Refusal.{Refusal}
-use Rattle.stops.specs.Refusals.{refused}
 use Rattle.queue.specs.declared.due.Due.{Due}
 use Rattle.queue.specs.Queues.{entries, front}
 use Rattle.offers.specs.declared.agenda.Agenda.{Agenda}
@@ -13,11 +11,6 @@ awaited a = entries a.due
 
 abbrev pub next : Agenda → Option Due
 next a = front a.due
-
--- reserved: no entry; else memory was wanting
-abbrev pub Reserved : Result Agenda Refusal → Type 0
-Reserved (Ok a) = awaited a ≡ []
-Reserved (Err e) = refused e ≡ (0, [])
 
 -- the first entry is taken off, if there is one
 abbrev pub Skipped : List Due → Option Due → List Due → Type 0

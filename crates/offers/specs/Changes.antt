@@ -3,6 +3,7 @@ use Rattle.std.specs.Prelude.{ℕ, List, [], Some, None, Ok, Err, Option, Result
 use Rattle.calls.specs.declared.record.Record.{Record}
 use Rattle.calls.specs.declared.state.State.{State}
 use Rattle.calls.specs.declared.state.State.TheVariants.{Open, Confirmed, Released, Lapsed, Withdrawn}
+use Rattle.calls.specs.Answers.{result_map}
 use Rattle.calls.specs.Records.{mark_of}
 use Rattle.offers.specs.declared.change.Change.{Change}
 use Rattle.offers.specs.declared.change.Change.TheVariants.{Confirm, Release, Withdraw, Lapse}
@@ -10,18 +11,12 @@ use Rattle.offers.specs.declared.change.Change.TheVariants.{Confirm, Release, Wi
 -- what becomes of an open number, with its deadline; 9 for any other
 abbrev pub from_open : State → (ℕ → State) → Result State (ℕ × List ℕ)
 from_open (Open d) f = Ok (f d)
-from_open (Confirmed m) f = Err (9, [])
-from_open (Released m) f = Err (9, [])
-from_open (Lapsed m) f = Err (9, [])
-from_open (Withdrawn m) f = Err (9, [])
+from_open _ f = Err (9, [])
 
 -- what becomes of a confirmed number; 10 for any other
 abbrev pub from_confirmed : State → State → Result State (ℕ × List ℕ)
-from_confirmed (Open d) s = Err (10, [])
 from_confirmed (Confirmed m) s = Ok s
-from_confirmed (Released m) s = Err (10, [])
-from_confirmed (Lapsed m) s = Err (10, [])
-from_confirmed (Withdrawn m) s = Err (10, [])
+from_confirmed _ s = Err (10, [])
 
 -- the state after a change at this minute: a lapsed number keeps its deadline
 abbrev pub changed : Change → ℕ → State → Result State (ℕ × List ℕ)
@@ -35,15 +30,9 @@ abbrev pub asked : Change → ℕ → Option State → Result State (ℕ × List
 asked change minute None = Err (8, [])
 asked change minute (Some s) = changed change minute s
 
--- the answer to a change, which is its refusal or nothing
-abbrev pub answered : {X E : Type 0} → Result X E → Result (Unit {0}) E
-answered (Ok x) = Ok tt
-answered (Err e) = Err e
-
--- the answer to a change that gives the number besides
+-- the answer to a change, which is its refusal or the number
 abbrev pub numbered : {X E : Type 0} → ℕ → Result X E → Result ℕ E
-numbered n (Ok x) = Ok n
-numbered n (Err e) = Err e
+numbered n r = result_map (λ x. n) r
 
 -- the records after a change of a number: a refused one leaves them
 abbrev pub put : List Record → ℕ → Result State (ℕ × List ℕ) → List Record

@@ -3,7 +3,7 @@ use Rattle.std.specs.Prelude.{◌≡◌, ℕ, suc, ◌<◌, Bool, true, false, �
 use Rattle.queue.specs.declared.due.Due.{Due}
 use Rattle.calls.specs.declared.record.Record.{Record}
 use Rattle.calls.specs.declared.state.State.{State}
-use Rattle.calls.specs.declared.state.State.TheVariants.{Open, Confirmed, Released, Lapsed, Withdrawn}
+use Rattle.calls.specs.declared.state.State.TheVariants.{Open}
 use Rattle.calls.specs.Records.{state_at, state_of}
 
 -- an entry has this deadline and this number
@@ -19,10 +19,7 @@ queued (x ∷ q) d n = matches x d n || queued q d n
 abbrev pub fits : Option State → ℕ → Bool
 fits None d = false
 fits (Some (Open e)) d = e == d
-fits (Some (Confirmed m)) d = true
-fits (Some (Released m)) d = true
-fits (Some (Lapsed m)) d = true
-fits (Some (Withdrawn m)) d = true
+fits _ d = true
 
 -- each open number has an entry; `at` is its place and its deadline
 abbrev pub Listed : List Record → List Due → Type 0

@@ -39,7 +39,7 @@ impl<F: Fleet> Book<F> {
         ensures { Does F.Fleet self.old (call_at minute (Action.Confirm number)) (done_or result) self.new }
     {
         self.begin(minute)?;
-        let _ = self.offers.change_given(number, Change::Confirm)?;
+        self.offers.change_given(number, Change::Confirm)?;
         Ok(())
     }
 

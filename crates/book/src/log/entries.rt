@@ -3,12 +3,11 @@ ghost use Rattle.book.specs.Logs.{entries_in, Reserved};
 
 use crate::log::Log;
 use calls::entry::Entry;
-use std::alloc::Global;
-use stops::refusal::Refusal;
+use std::alloc::{AllocError, Global};
 
 impl Log {
-    // A log with no entry and this many places.
-    pub fn reserve(heap: Global, room: usize) -> Result<Log, Refusal>
+    // A log with no entry and this many places; it fails only where there is no memory.
+    pub fn reserve(heap: Global, room: usize) -> Result<Log, AllocError>
         ensures { Reserved room result }
     {
         let entries = Vec::with_capacity(heap, room)?;

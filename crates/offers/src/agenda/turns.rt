@@ -1,20 +1,19 @@
-ghost use Rattle.std.specs.Prelude.{◌≡◌, ◌<◌, [], ◌∷◌, length};
+ghost use Rattle.std.specs.Prelude.{◌≡◌, ◌<◌, [], ◌∷◌, length, IfOk};
 ghost use mathlib.Core.List.{Perm};
 ghost use Rattle.queue.specs.Deadlines.{if_due, FirstDue};
-ghost use Rattle.offers.specs.Agendas.{awaited, next, Reserved, Skipped};
+ghost use Rattle.offers.specs.Agendas.{awaited, next, Skipped};
 ghost use Rattle.calls.specs.Limits.{number_limit};
 
 use crate::agenda::Agenda;
 use calls::limits::NUMBERS;
 use queue::due::Due;
 use queue::queue::Queue;
-use std::alloc::Global;
-use stops::refusal::Refusal;
+use std::alloc::{AllocError, Global};
 
 impl Agenda {
-    // An empty agenda; the only refusal is want of memory.
-    pub(crate) fn reserve(heap: Global) -> Result<Agenda, Refusal>
-        ensures { Reserved result }
+    // An empty agenda; it fails only where there is no memory.
+    pub(crate) fn reserve(heap: Global) -> Result<Agenda, AllocError>
+        ensures { IfOk result (λ a. awaited a ≡ []) }
     {
         let due = Queue::reserve(heap, NUMBERS)?;
         Ok(Agenda { due })
@@ -25,12 +24,10 @@ impl Agenda {
         ensures value { result ≡ if_due minute (next self.now) }
         ensures first { FirstDue minute (awaited self.now) result }
     {
-        let first = self.due.peek()?;
-        if first.deadline <= minute {
-            Some(*first)
-        } else {
-            None
-        }
+        self.due
+            .peek()
+            .copied()
+            .filter(|first| first.deadline <= minute)
     }
 
     // Takes the first entry off.

@@ -10,21 +10,6 @@ use calls::limits::NUMBERS;
 use calls::record::Record;
 use stops::refusal::Refusal;
 
-// The record of a number, if it was given.
-fn find_record(records: &[Record], number: u32) -> Option<Record>
-    ensures { result ≡ record_of records.now number }
-{
-    if number == 0 {
-        return None;
-    }
-    let i = number as usize - 1;
-    if i < records.len() {
-        Some(records[i])
-    } else {
-        None
-    }
-}
-
 impl Offers {
     pub fn clock(&self) -> u32
         ensures { result ≡ self.now.clock }
@@ -44,7 +29,8 @@ impl Offers {
     pub fn record(&self, number: u32) -> Option<Record>
         ensures { result ≡ record_of (rows self.now) number }
     {
-        find_record(self.records.as_slice(), number)
+        let place = (number as usize).checked_sub(1)?;
+        self.records.get(place).copied()
     }
 
     // The number that the next record gets.

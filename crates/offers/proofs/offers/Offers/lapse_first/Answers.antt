@@ -1,4 +1,4 @@
-use Rattle.std.proofs.Common.{◌≡◌, suc, ◌≤◌, true, false, List, ◌∷◌, length, is_ok, vec_len, sym, ◌∙◌, arith}
+use Rattle.std.proofs.Common.{◌≡◌, suc, ◌≤◌, true, List, ◌∷◌, length, vec_len, arith}
 use mathlib.Core.List.{Perm}
 use Rattle.queue.proofs.Permuted.{length_perm}
 use Rattle.queue.specs.declared.due.Due.{Due}
@@ -8,13 +8,13 @@ use Rattle.calls.specs.Records.{state_of}
 use Rattle.offers.specs.Tables.{rows}
 use Rattle.offers.proofs.Dues.{lapse_laws}
 use Rattle.offers.proofs.Fitting.{listed_skip, known_skip, first_fits}
-use Rattle.offers.proofs.Turns.{first_taken, closed_after, settled, lapsing_some, lapsing_none, none_undue, carried}
+use Rattle.offers.proofs.Turns.{first_taken, closed_after, lapsing_some, lapsing_none, none_undue, carried}
 use Rattle.offers.proofs.offers.Offers.lapse_first.Goals as goal
 use Rattle.offers.proofs.offers.Offers.lapse_first.Goals.{After-skip_first, In_default}
 
 -- the first entry is off: that of the agenda after the change, and so of the one before
-off : (c : After-skip_first) → Perm (awaited c.change-lapsed.new.self.agenda) (c.in-Some.first ∷ awaited c.skip_first.new.self) × Perm (awaited c.loop-first.self.agenda) (c.in-Some.first ∷ awaited c.skip_first.new.self)
-off c = first_taken c.loop-first.self.agenda c.change-lapsed.new.self.agenda c.in-Some.first (awaited c.skip_first.new.self) c.args.minute c.in-Some.ensures.value c.change-lapsed.ensures.rest.1 c.skip_first.ensures
+off : (c : After-skip_first) → Perm (awaited c.change_given-lapsed.new.self.agenda) (c.in-Some.first ∷ awaited c.skip_first.new.self) × Perm (awaited c.loop-first.self.agenda) (c.in-Some.first ∷ awaited c.skip_first.new.self)
+off c = first_taken c.loop-first.self.agenda c.change_given-lapsed.new.self.agenda c.in-Some.first (awaited c.skip_first.new.self) c.args.minute c.in-Some.ensures.value c.change_given-lapsed.ensures.rest.1 c.skip_first.ensures
 
 -- it fitted its record
 fitted : (c : After-skip_first) → fits (state_of (rows c.loop-first.self) c.in-Some.first.number) c.in-Some.first.deadline ≡ true
@@ -23,24 +23,22 @@ fitted c = first_fits (rows c.loop-first.self) c.in-Some.first (awaited c.loop-f
 pub invariant_of-self : goal.invariant_of-self
 invariant_of-self c =
     let o = c.loop-first.self in
-    let p = c.change-lapsed.new.self in
+    let p = c.change_given-lapsed.new.self in
     let x : Due = c.in-Some.first in
     let xs : List Due = awaited p.agenda in
     let ys : List Due = awaited c.skip_first.new.self in
     let long : length xs ≡ suc (length ys) = length_perm xs (x ∷ ys) (off c).0 in
     let short : length ys ≤ vec_len p.records = omega (arith, long, p.short) in
-    record { few = p.few; room = p.room; short = short; listed = listed_skip (rows p) x xs ys (off c).0 (closed_after (rows o) (rows p) x o.clock (fitted c) c.change-lapsed.ensures.records) p.listed; known = known_skip (rows p) x xs ys (off c).0 p.known; undue = p.undue }
+    record { few = p.few; room = p.room; short = short; listed = listed_skip (rows p) x xs ys (off c).0 (closed_after (rows o) (rows p) x o.clock (fitted c) (rw c.from.ensures at c.change_given-lapsed.ensures.records)) p.listed; known = known_skip (rows p) x xs ys (off c).0 p.known; undue = p.undue }
 
-pub returns-then-is_ok : goal.returns-then-is_ok
-returns-then-is_ok c =
+pub returns-in-Ok : goal.returns-in-Ok
+returns-in-Ok c =
     let o = c.loop-first.self in
-    let p = c.change-lapsed.new.self in
-    let x : Due = c.in-Some.first in
-    let done : is_ok c.change-lapsed.result ≡ true = sym c.is_ok.ensures.value ∙ c.if-is_ok.true in
+    let p = c.change_given-lapsed.new.self in
     let first = c.in-Some.ensures.first in
-    let step = lapsing_some (rows o) (rows p) x o.clock (fitted (goal.at.returns-then-is_ok c).After-skip_first) c.change-lapsed.ensures.records c.change-lapsed.result c.change-lapsed.ensures.answer c.args.minute (awaited o.agenda) done o.listed first.1 first.0 in
+    let step = lapsing_some (rows o) (rows p) c.in-Some.first o.clock (fitted (goal.at.returns-in-Ok c).After-skip_first) (rw c.from.ensures at c.change_given-lapsed.ensures.records) c.args.minute c.in-Ok.number (awaited o.agenda) (rw c.from.ensures at c.in-Ok.ensures.answer) o.listed first.1 first.0 in
     record {
-      step = carried c.args.minute (rows o) (rows c.args.self.now) (rows p) o.clock c.args.self.now.clock p.clock x.number c.loop-first.invariant.0 c.loop-first.invariant.1 c.change-lapsed.ensures.rest.0 step;
+      step = carried c.args.minute (rows o) (rows c.args.self.now) (rows p) o.clock c.args.self.now.clock p.clock c.in-Ok.number c.loop-first.invariant.0 c.loop-first.invariant.1 c.change_given-lapsed.ensures.rest.0 step;
       laws = lapse_laws c.args.minute (rows c.args.self.now);
     }
 
@@ -51,13 +49,6 @@ loop-first-smaller c =
     let long : length xs ≡ suc (length ys) = length_perm xs (c.in-Some.first ∷ ys) (off (goal.at.loop-first-smaller c).After-skip_first).1 in
     let less : suc (length ys) ≤ length xs = omega (arith, long) in
     less
-
-pub loop-first-preserved : goal.loop-first-preserved
-loop-first-preserved c =
-    let o = c.loop-first.self in
-    let p = c.change-lapsed.new.self in
-    let refusal : is_ok c.change-lapsed.result ≡ false = sym c.is_ok.ensures.value ∙ c.if-is_ok.false in
-    (settled (rows o) (rows p) c.in-Some.first o.clock (fitted (goal.at.loop-first-preserved c).After-skip_first) c.change-lapsed.ensures.records c.change-lapsed.result c.change-lapsed.ensures.answer refusal ∙ c.loop-first.invariant.0, c.change-lapsed.ensures.rest.0 ∙ c.loop-first.invariant.1)
 
 -- no entry is due, so no number is
 spent : (c : In_default) → Undue c.args.minute (rows c.loop-first.self)
