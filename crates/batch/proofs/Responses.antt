@@ -1,20 +1,18 @@
 -- What a response comes to, and that none is longer than the room reserved for it.
-use Rattle.std.proofs.Common.{◌≡◌, ℕ, suc, ◌+◌, ◌*◌, ◌^◌, ◌<◌, ◌≤◌, true, false, cond, eqb, List, [], ◌∷◌, length, Ok, Err, codes, decimal, Result, refl, ap, ◌∙◌, arith, length-append, le-ltb, lt-ltb}
+use Rattle.std.proofs.Common.{◌≡◌, ℕ, suc, ◌+◌, ◌*◌, ◌^◌, ◌<◌, ◌≤◌, true, false, cond, eqb, List, [], ◌∷◌, length, Ok, Err, codes, vec_items, Result, refl, ap, ◌∙◌, arith, length-append, le-ltb, lt-ltb}
 use Rattle.std.proofs.lemmas.Fmt.{length-decimal-le}
 use Rattle.commands.specs.declared.setup.entry.SlotEntry.{SlotEntry}
+use Rattle.commands.specs.declared.setup.sheet.Setup.{Setup}
 use Rattle.commands.specs.Setups.{setup_of}
+use Rattle.commands.proofs.Entered.{five}
 use Rattle.commands.proofs.Written.{sheet_back}
 use Rattle.stops.specs.declared.refusal.Refusal.{Refusal}
 use Rattle.text.specs.declared.buffer.Buffer.{Buffer}
-use Rattle.text.specs.Buffers.{Partly, content}
+use Rattle.text.specs.Buffers.{Added, content}
 use Rattle.text.specs.Parts.{ahead, lines}
 use Rattle.vans.specs.declared.van.Van.{Van}
 use Rattle.batch.specs.Listing.{listing, numbered, section, slot_line, van_line}
 use Rattle.batch.specs.Response.{Grown, ReadBack, answered, fault_line, response}
-
--- a number below 100,000 has at most 5 figures
-five : (n : ℕ) → n < 100000 → length (decimal n) ≤ 5
-five n h = length-decimal-le 5 n (omega arith) h (omega arith)
 
 pub fault_short : (n line : ℕ) → n < 256 → line < 2 ^ 32 → length (fault_line n line) ≤ 100
 fault_short n line h k =
@@ -29,7 +27,7 @@ slot_short n e h =
     let c = five e.slot.closes (omega (arith, e.slot.day)) in
     let d = five e.share.places (omega (arith, e.share.few)) in
     let f = five e.share.kept (omega (arith, e.share.few, e.share.within)) in
-    let i = five e.weight.units (omega (arith, e.weight.few)) in
+    let i = five e.weight.count (omega (arith, e.weight.few)) in
     simp length-append (omega arith)
 
 van_short : (n : ℕ) (v : Van) → n < 100 → length (van_line n v) ≤ 60
@@ -50,24 +48,26 @@ section_short kind line few short xs h =
     let b = numbered_short line short 0 xs (omega arith) in
     simp length-append (omega arith)
 
-pub listing_short : (slots : List SlotEntry) (vans : List Van) → length slots ≤ 12 → length vans ≤ 8 → length (listing slots vans) ≤ 2000
-listing_short slots vans h k =
-    let a = section_short (codes "slots ") slot_line (omega arith) slot_short slots (omega arith) in
-    let b = section_short (codes "vans ") van_line (omega arith) van_short vans (omega arith) in
-    omega (arith, length-append (section (codes "slots ") slot_line slots) (section (codes "vans ") van_line vans))
+pub listing_short : (s : Setup) → length (listing (vec_items s.slots) (vec_items s.vans)) ≤ 2000
+listing_short s =
+    let slots = section (codes "slots ") slot_line (vec_items s.slots) in
+    let vans = section (codes "vans ") van_line (vec_items s.vans) in
+    let a = section_short (codes "slots ") slot_line (omega arith) slot_short (vec_items s.slots) (omega (arith, s.slots.ok.0, s.fewslots)) in
+    let b = section_short (codes "vans ") van_line (omega arith) van_short (vec_items s.vans) (omega (arith, s.vans.ok.0, s.fewvans)) in
+    omega (arith, length-append slots vans)
 
 -- what is answered to a long input, and to one that is read
 pub response_long : (input : List ℕ) → 60000 < length input → response input ≡ fault_line 14 0
-response_long input h = ap (λ b. cond b (fault_line 14 0) (answered (lines input) (setup_of (lines input)))) (lt-ltb 60000 (length input) h)
+response_long input h = rw (lt-ltb 60000 (length input) h)
 
 pub response_read : (input : List ℕ) → length input ≤ 60000 → response input ≡ answered (lines input) (setup_of (lines input))
-response_read input h = ap (λ b. cond b (fault_line 14 0) (answered (lines input) (setup_of (lines input)))) (le-ltb 60000 (length input) h)
+response_read input h = rw (le-ltb 60000 (length input) h)
 
 pub read_back : (input : List ℕ) → ReadBack input
 read_back input slots vans begins few = response_read input few ∙ ap (answered (lines input)) (sheet_back (lines input) slots vans begins)
 
--- a text that has room is added whole
-pub grown : (text : List ℕ) (a : Buffer) (r : Result (Unit {0}) Refusal) (b : Buffer) → Partly text a r b → length (content a) + length text ≤ a.room → Grown text a r b
+-- a text that has room is added
+pub grown : (text : List ℕ) (a : Buffer) (r : Result (Unit {0}) Refusal) (b : Buffer) → Added text a r b → length (content a) + length text ≤ a.room → Grown text a r b
 grown text a (Ok u) b h room = (refl, h.0, h.1)
 grown text a (Err e) b h room = absurd (omega (arith, h.1, room))
 

@@ -6,7 +6,7 @@ use Rattle.vans.specs.declared.van.Van.{Van}
 -- slot N open close places kept weight
 abbrev pub slot_line : ℕ → SlotEntry → List ℕ
 slot_line n e =
-    codes "slot " ++ (decimal n ++ (codes " " ++ (decimal e.slot.opens ++ (codes " " ++ (decimal e.slot.closes ++ (codes " " ++ (decimal e.share.places ++ (codes " " ++ (decimal e.share.kept ++ (codes " " ++ (decimal e.weight.units ++ 10 ∷ [])))))))))))
+    codes "slot " ++ (decimal n ++ (codes " " ++ (decimal e.slot.opens ++ (codes " " ++ (decimal e.slot.closes ++ (codes " " ++ (decimal e.share.places ++ (codes " " ++ (decimal e.share.kept ++ (codes " " ++ (decimal e.weight.count ++ 10 ∷ [])))))))))))
 
 -- van N load start end
 abbrev pub van_line : ℕ → Van → List ℕ

@@ -3,6 +3,7 @@ ghost use Rattle.text.specs.Buffers.{Added, Partly};
 ghost use Rattle.batch.specs.Listing.{listing, numbered, section, slot_line, van_line};
 
 use commands::setup::entry::SlotEntry;
+use commands::setup::sheet::Setup;
 use stops::refusal::Refusal;
 use text::buffer::Buffer;
 use text::piece::Piece;
@@ -21,18 +22,18 @@ impl Listed for SlotEntry {
 
     fn list(&self, number: u32, text: &mut Buffer) -> Result<(), Refusal> {
         text.add_line(&[
-            Piece::Word(b"slot "),
+            Piece::Word("slot "),
             Piece::Number(number),
-            Piece::Word(b" "),
+            Piece::Word(" "),
             Piece::Number(u32::from(self.slot.opens)),
-            Piece::Word(b" "),
+            Piece::Word(" "),
             Piece::Number(u32::from(self.slot.closes)),
-            Piece::Word(b" "),
+            Piece::Word(" "),
             Piece::Number(u32::from(self.share.places)),
-            Piece::Word(b" "),
+            Piece::Word(" "),
             Piece::Number(u32::from(self.share.kept)),
-            Piece::Word(b" "),
-            Piece::Number(u32::from(self.weight.units)),
+            Piece::Word(" "),
+            Piece::Number(u32::from(self.weight.count)),
         ])
     }
 }
@@ -42,13 +43,13 @@ impl Listed for Van {
 
     fn list(&self, number: u32, text: &mut Buffer) -> Result<(), Refusal> {
         text.add_line(&[
-            Piece::Word(b"van "),
+            Piece::Word("van "),
             Piece::Number(number),
-            Piece::Word(b" "),
+            Piece::Word(" "),
             Piece::Number(u32::from(self.limit)),
-            Piece::Word(b" "),
+            Piece::Word(" "),
             Piece::Number(u32::from(self.start)),
-            Piece::Word(b" "),
+            Piece::Word(" "),
             Piece::Number(u32::from(self.end)),
         ])
     }
@@ -67,7 +68,7 @@ fn list_all<T: Listed>(items: &[T], text: &mut Buffer) -> Result<(), Refusal>
 
 // How many there are of a kind, and each of them.
 fn list_section<T: Listed>(
-    kind: &'static [u8],
+    kind: &'static str,
     items: &[T],
     text: &mut Buffer,
 ) -> Result<(), Refusal>
@@ -79,15 +80,9 @@ fn list_section<T: Listed>(
 }
 
 // The slots, then the vans.
-pub(crate) fn list_setup(
-    slots: &[SlotEntry],
-    vans: &[Van],
-    text: &mut Buffer,
-) -> Result<(), Refusal>
-    requires slots { length slots.now ≤ 100 }
-    requires vans { length vans.now ≤ 100 }
-    ensures { Partly (listing slots.now vans.now) text.old result text.new }
+pub(crate) fn list_setup(sheet: &Setup, text: &mut Buffer) -> Result<(), Refusal>
+    ensures { Partly (listing sheet.now.slots.items sheet.now.vans.items) text.old result text.new }
 {
-    list_section(b"slots ", slots, text)?;
-    list_section(b"vans ", vans, text)
+    list_section("slots ", sheet.slots(), text)?;
+    list_section("vans ", sheet.vans(), text)
 }

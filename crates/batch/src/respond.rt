@@ -1,7 +1,6 @@
-ghost use Rattle.std.specs.Prelude.{◌≡◌, ◌+◌, ◌≤◌, [], length, drop};
+ghost use Rattle.std.specs.Prelude.{◌≡◌, ◌+◌, ◌≤◌, [], length};
 ghost use Rattle.stops.specs.Refusals.{number};
 ghost use Rattle.text.specs.Buffers.{content};
-ghost use Rattle.text.specs.Lines.{lines_left};
 ghost use Rattle.text.specs.Parts.{lines};
 ghost use Rattle.text.specs.Written.{Wrote};
 ghost use Rattle.batch.specs.Response.{Grown, ReadBack, day, fault_line, response};
@@ -9,15 +8,12 @@ ghost use Rattle.batch.specs.Response.{Grown, ReadBack, day, fault_line, respons
 use crate::hearing::hear_all;
 use crate::listing::list_setup;
 use crate::workspace::Workspace;
-use commands::setup::entry::SlotEntry;
 use commands::setup::memory::Memory;
 use commands::setup::refusal::SetupRefusal;
 use commands::setup::sheet::Setup;
 use stops::refusal::Refusal;
 use text::buffer::Buffer;
-use text::lines::Lines;
 use text::piece::Piece;
-use vans::van::Van;
 
 // The most bytes of an input.
 pub const INPUT_BYTES: usize = 60_000;
@@ -34,58 +30,44 @@ pub fn respond(work: Workspace, input: &[u8], out: &mut [u8]) -> Result<usize, R
 }
 
 // Puts the output for an input into an empty text.
-fn compose(setup: Memory, input: &[u8], text: &mut Buffer) -> Result<(), Refusal>
+fn compose(memory: Memory, input: &[u8], text: &mut Buffer) -> Result<(), Refusal>
     requires blank { content text.old ≡ [] }
     requires room { text.old.room ≡ 5000000 }
     ensures { Grown (response input.now) text.old result text.new }
 {
     if input.len() > INPUT_BYTES {
-        return write_fault(Refusal::TooLong, 0, text);
+        let fault = SetupRefusal {
+            refusal: Refusal::TooLong,
+            line: 0,
+        };
+        return write_fault(fault, text);
     }
-    match Setup::read(setup, input) {
-        Ok(sheet) => write_day(sheet.slots(), sheet.vans(), input, text),
-        Err(SetupRefusal { refusal, line }) => write_fault(refusal, line, text),
+    match Setup::read(memory, input) {
+        Ok(sheet) => write_day(&sheet, input, text),
+        Err(fault) => write_fault(fault, text),
     }
 }
 
 // The set-up that was taken, and what was heard of the lines behind it.
-fn write_day(
-    slots: &[SlotEntry],
-    vans: &[Van],
-    input: &[u8],
-    text: &mut Buffer,
-) -> Result<(), Refusal>
+fn write_day(sheet: &Setup, input: &[u8], text: &mut Buffer) -> Result<(), Refusal>
     requires blank { content text.old ≡ [] }
     requires room { text.old.room ≡ 5000000 }
-    requires slots { length slots.now ≤ 12 }
-    requires vans { length vans.now ≤ 8 }
     requires input { length input.now ≤ 60000 }
-    ensures { Grown (day slots.now vans.now (lines input.now)) text.old result text.new }
+    ensures { Grown (day sheet.now.slots.items sheet.now.vans.items (lines input.now)) text.old result text.new }
 {
-    list_setup(slots, vans, text)?;
-    hear_all(lines_behind(input, slots.len() + vans.len()), text)
-}
-
-// The lines of an input but for so many at the front.
-fn lines_behind(input: &[u8], count: usize) -> Lines<'_>
-    ensures { lines_left result ≡ drop count (lines input.now) }
-{
-    let mut left = Lines::of(input);
-    for passed in 0..count {
-        let _ = left.next();
-    }
-    left
+    list_setup(sheet, text)?;
+    hear_all(input, sheet.slots().len() + sheet.vans().len(), text)
 }
 
 // refused R line L
-fn write_fault(refusal: Refusal, line: u32, text: &mut Buffer) -> Result<(), Refusal>
+fn write_fault(fault: SetupRefusal, text: &mut Buffer) -> Result<(), Refusal>
     requires { length (content text.old) + 100 ≤ text.old.room }
-    ensures { Grown (fault_line (number refusal) line) text.old result text.new }
+    ensures { Grown (fault_line (number fault.refusal) fault.line) text.old result text.new }
 {
     text.add_line(&[
-        Piece::Word(b"refused "),
-        Piece::Number(u32::from(refusal.number())),
-        Piece::Word(b" line "),
-        Piece::Number(line),
+        Piece::Word("refused "),
+        Piece::Number(u32::from(fault.refusal.number())),
+        Piece::Word(" line "),
+        Piece::Number(fault.line),
     ])
 }

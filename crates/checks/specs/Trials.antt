@@ -9,9 +9,7 @@ use Rattle.fleet.specs.Layers.{layered}
 use Rattle.fleet.specs.Loads.{stops_of}
 use Rattle.fleet.specs.Meaning.{Meaning, after}
 use Rattle.fleet.specs.Slotwise.{slotwise}
-use Rattle.layers.specs.declared.rules.reserve.Reserve.{Reserve}
-use Rattle.layers.specs.declared.rules.weight.Weight.{Weight}
-use Rattle.layers.specs.OwnRules.{reserve, weight}
+use Rattle.layers.specs.OwnRules.{Reserve, Weight, reserve, weight}
 
 -- What the trial of stop s under number n leaves, from set-up u and standing t to set-up v and standing w, with the answer r.
 pub record Tried {Setup Standing : Type 0} (m : Meaning Setup Standing) (u : Setup) (t : Standing) (n : ℕ) (s : Stop) (r : Result (Unit {0}) Refusal) (v : Setup) (w : Standing) : Type 0 where

@@ -4,4 +4,6 @@
 mod day;
 #[cfg(test)]
 mod lines;
+#[cfg(test)]
+mod reserves;
 pub mod trial;

@@ -78,7 +78,7 @@ fn responds(rt: &impl Abort, heap: Global, input: &[u8], expected: &[u8]) -> Res
     let mut out = vec![in heap; 0u8; OUTPUT_BYTES]?;
     let len = respond(work, input, &mut out)?;
     assert!(rt; len <= OUTPUT_BYTES);
-    assert_eq!(rt; &out[0..len], expected);
+    assert_eq!(rt; &out[..len], expected);
     Ok(())
 }
 
@@ -137,9 +137,7 @@ fn too_many_lines(rt: HostRuntime) -> Result<(), Fail> {
 #[test]
 fn longest_input(rt: HostRuntime) -> Result<(), Fail> {
     let mut input = sheet(rt.alloc(), 1, 1, b"")?;
-    for _ in input.len()..INPUT_BYTES {
-        input.push(b'T')?;
-    }
+    input.resize(INPUT_BYTES, b'T')?;
     assert_eq!(rt; input.len(), INPUT_BYTES);
     responds(
         &rt,
@@ -156,12 +154,12 @@ fn short_buffer(rt: HostRuntime) -> Result<(), Fail> {
     let input = sheet(rt.alloc(), 1, 1, b"")?;
     let mut out = [7u8; 60];
     let short = GOOD.len() - 1;
-    let refused = respond(Workspace::reserve(rt.alloc())?, &input, &mut out[0..short]);
+    let refused = respond(Workspace::reserve(rt.alloc())?, &input, &mut out[..short]);
     assert_eq!(rt; refused, Err(Refusal::TooShort));
     assert_eq!(rt; &out, &[7u8; 60]);
     let len = respond(Workspace::reserve(rt.alloc())?, &input, &mut out)?;
     assert_eq!(rt; len, GOOD.len());
-    assert_eq!(rt; &out[GOOD.len()..60], &[7u8; 60][GOOD.len()..60]);
+    assert_eq!(rt; &out[GOOD.len()..], &[7u8; 60][GOOD.len()..]);
     Ok(())
 }
 

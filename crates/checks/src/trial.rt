@@ -15,11 +15,9 @@ pub fn try_out<F: Fleet>(fleet: &mut F, number: u16, stop: &Stop) -> Result<(), 
     ensures setup { F.Fleet.setup fleet.new ≡ F.Fleet.setup fleet.old }
     ensures trial { Trial F.Fleet.meaning (F.Fleet.setup fleet.old) (F.Fleet.standing fleet.old) number stop.now result (F.Fleet.setup fleet.new) (F.Fleet.standing fleet.new) }
 {
-    let answer = fleet.place(number, stop);
-    if let Ok(()) = answer {
-        let _ = fleet.remove(number);
-    }
-    answer
+    fleet.place(number, stop)?;
+    let _ = fleet.remove(number);
+    Ok(())
 }
 
 // The same through two layers over any fleet.

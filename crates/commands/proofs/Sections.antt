@@ -1,8 +1,12 @@
 -- A section of the set-up, line by line.
-use Rattle.std.proofs.Common.{◌≡◌, ℕ, ◌+◌, true, false, cond, List, [], ◌∷◌, ◌++◌, length, drop, Some, None, Ok, Err, Result, sym, refl, ap, ◌∙◌, arith, length-append}
+use Rattle.std.proofs.Common.{◌≡◌, ℕ, ◌+◌, Bool, true, false, cond, List, [], ◌∷◌, ◌++◌, length, drop, Some, None, Ok, Err, IfOk, OnOk, Global, Result, Vec, sym, refl, ap, ◌∙◌, arith, length-append}
+use Rattle.std.specs.Bool.{then_some}
 use Rattle.std.specs.List.{slice_get}
-use Rattle.stops.specs.Refusals.{and_then}
-use Rattle.commands.specs.Setups.{Fault, at_line, begins, entries, leading, section}
+use Rattle.std.specs.Option.{option_map}
+use Rattle.stops.specs.declared.refusal.Refusal.{Refusal}
+use Rattle.stops.specs.Refusals.{and_then, coded}
+use Rattle.commands.specs.declared.setup.refusal.SetupRefusal.{SetupRefusal}
+use Rattle.commands.specs.Setups.{Fault, at_line, begins, entries, faulted, leading, listed, section}
 
 -- the first line
 pub first_is : (ls : List (List ℕ)) (l : List ℕ) → Some l ≡ slice_get ls 0 → ls ≡ l ∷ drop 1 ls
@@ -13,35 +17,56 @@ pub none_left : (ls : List (List ℕ)) → None ≡ slice_get ls 0 → ls ≡ []
 none_left [] e = refl
 none_left (m ∷ ls) e = absurd (let z : ◌≡◌ {A = ℕ} 0 1 = cc in omega arith)
 
-pub leading_more : (letter : ℕ) (ls : List (List ℕ)) (l : List ℕ) → Some l ≡ slice_get ls 0 → begins letter l ≡ true → leading letter ls ≡ l ∷ leading letter (drop 1 ls)
-leading_more letter ls l e b = ap (leading letter) (first_is ls l e) ∙ ap (λ t. cond t (l ∷ leading letter (drop 1 ls)) []) b
+-- the first line, if it begins with the letter, is the first of the kind
+pub leading_first : {A : Type 0} (line : A → List ℕ) (letter : ℕ) (ls : List (List ℕ)) (a : A) (b : Bool) → Some (line a) ≡ slice_get ls 0 → b ≡ begins letter (line a) → option_map line (then_some b a) ≡ slice_get (leading letter ls) 0
+leading_first line letter ls a b e h =
+    ap (λ t. option_map line (then_some t a)) h
+    ∙ elim (begins letter (line a)) as (λ t. option_map line (then_some t a) ≡ slice_get (cond t (line a ∷ leading letter (drop 1 ls)) []) 0) [ true ↦ refl | false ↦ refl ]
+    ∙ sym (ap (λ ms. slice_get (leading letter ms) 0) (first_is ls (line a) e))
 
-pub leading_other : (letter : ℕ) (ls : List (List ℕ)) (l : List ℕ) → Some l ≡ slice_get ls 0 → begins letter l ≡ false → leading letter ls ≡ []
-leading_other letter ls l e b = ap (leading letter) (first_is ls l e) ∙ ap (λ t. cond t (l ∷ leading letter (drop 1 ls)) []) b
+pub leading_none : (letter : ℕ) (ls : List (List ℕ)) → None ≡ slice_get ls 0 → None ≡ slice_get (leading letter ls) 0
+leading_none letter ls e = sym (ap (λ ms. slice_get (leading letter ms) 0) (none_left ls e))
 
-pub leading_end : (letter : ℕ) (ls : List (List ℕ)) → None ≡ slice_get ls 0 → leading letter ls ≡ []
-leading_end letter ls e = ap (leading letter) (none_left ls e)
+pub leading_more : (letter : ℕ) (ls : List (List ℕ)) (l : List ℕ) → Some l ≡ slice_get (leading letter ls) 0 → leading letter ls ≡ l ∷ leading letter (drop 1 ls)
+leading_more letter [] l e = absurd (let z : ◌≡◌ {A = ℕ} 0 1 = cc in omega arith)
+leading_more letter (m ∷ ls) l e =
+    elim (begins letter m) as (λ t. Some l ≡ slice_get (cond t (m ∷ leading letter ls) []) 0 → cond t (m ∷ leading letter ls) [] ≡ l ∷ leading letter ls) [
+      | true ↦ λ h. let q : m ≡ l = cc in ap (λ k. k ∷ leading letter ls) q
+      | false ↦ λ h. absurd (let z : ◌≡◌ {A = ℕ} 0 1 = cc in omega arith)
+    ] e
 
 -- what is left gives the same: one line more, the first bad one, or none
 module _ {X : Type 0} (read : ℕ → List ℕ → Result X (ℕ × List ℕ)) (letter first : ℕ) (xs : List X) (ls : List (List ℕ)) (whole : Result (List X) Fault) (same : entries read first xs (leading letter ls) ≡ whole) where
-  then_on : List ℕ → Result X Fault → Result (List X) Fault
-  then_on l r = and_then r (λ y. entries read first (xs ++ y ∷ []) (leading letter (drop 1 ls)))
+  then_on : Result X Fault → Result (List X) Fault
+  then_on r = and_then r (λ y. entries read first (xs ++ y ∷ []) (leading letter (drop 1 ls)))
 
-  at_first : (l : List ℕ) (k : ℕ) (r : Result X Fault) → Some l ≡ slice_get ls 0 → begins letter l ≡ true → k ≡ length xs → r ≡ at_line (first + k) (read k l) → then_on l r ≡ whole
-  unfolding then_on
-  at_first l k r e b n h =
-      ap (then_on l) (h ∙ ap (λ i. at_line (first + i) (read i l)) n) ∙ sym (ap (entries read first xs) (leading_more letter ls l e b)) ∙ same
+  -- the answer to the first line, which has the number n and k of its kind before it
+  module _ (l : List ℕ) (k n : ℕ) (r : Result X (ℕ × List ℕ)) (e : Some l ≡ slice_get (leading letter ls) 0) (count : k ≡ length xs) (at : n ≡ first + length xs) (says : r ≡ read k l) where
+    at_first : then_on (at_line n r) ≡ whole
+    unfolding then_on
+    at_first =
+        ap (λ i. then_on (at_line i r)) at ∙ ap (λ q. then_on (at_line (first + length xs) q)) (says ∙ ap (λ i. read i l) count) ∙ sym (ap (entries read first xs) (leading_more letter ls l e)) ∙ same
 
-  pub line_taken : (l : List ℕ) (k : ℕ) (x : X) → Some l ≡ slice_get ls 0 → begins letter l ≡ true → k ≡ length xs → Ok x ≡ at_line (first + k) (read k l) → (ys : List X) (ms : List (List ℕ)) → ys ≡ xs ++ x ∷ [] → ms ≡ drop 1 ls → entries read first ys (leading letter ms) ≡ whole
-  unfolding then_on
-  line_taken l k x e b n h ys ms p q = ap (λ zs. entries read first zs (leading letter ms)) p ∙ ap (λ ns. entries read first (xs ++ x ∷ []) (leading letter ns)) q ∙ at_first l k (Ok x) e b n h
+    pub line_taken : (x : X) → Ok x ≡ at_line n r → (ys : List X) (ms : List (List ℕ)) → ys ≡ xs ++ x ∷ [] → ms ≡ drop 1 ls → entries read first ys (leading letter ms) ≡ whole
+    unfolding then_on
+    line_taken x h ys ms p q = ap (λ zs. entries read first zs (leading letter ms)) p ∙ ap (λ ns. entries read first (xs ++ x ∷ []) (leading letter ns)) q ∙ ap then_on h ∙ at_first
 
-  pub line_refused : (l : List ℕ) (k : ℕ) (f : Fault) → Some l ≡ slice_get ls 0 → begins letter l ≡ true → k ≡ length xs → Err f ≡ at_line (first + k) (read k l) → Err f ≡ whole
-  unfolding then_on
-  line_refused l k f e b n h = at_first l k (Err f) e b n h
+    pub line_refused : (f : Fault) → Err f ≡ at_line n r → Err f ≡ whole
+    unfolding then_on
+    line_refused f h = ap then_on h ∙ at_first
 
-  pub all_taken : leading letter ls ≡ [] → Ok xs ≡ whole
-  all_taken none = sym (ap (entries read first xs) none) ∙ same
+  pub all_taken : None ≡ slice_get (leading letter ls) 0 → Ok xs ≡ whole
+  all_taken none = sym (ap (entries read first xs) (none_left (leading letter ls) none)) ∙ same
+
+-- what holds where an entry was read
+pub taken_if : {X : Type 0} (P : Type 0) (r : Result X Refusal) (n : ℕ) (x : X) → Ok x ≡ at_line n (coded r) → OnOk r P → P
+taken_if P (Ok y) n x e h = h
+taken_if P (Err f) n x e h = absurd (let z : ◌≡◌ {A = ℕ} 0 1 = cc in omega arith)
+
+-- a list that was refused
+pub list_refused : {X : Type 0} (P : Vec X Global → Type 0) (r : Result (Vec X Global) SetupRefusal) (f : Fault) → faulted r ≡ Err f → (listed r ≡ Err f) × IfOk r P
+list_refused P (Ok v) f h = absurd (let z : ◌≡◌ {A = ℕ} 0 1 = cc in omega arith)
+list_refused P (Err e) f h = (let q : faulted {X = ℕ} (Err e) ≡ Err f = cc in cc, tt)
 
 -- ---- a section as a whole
 module _ {X : Type 0} (read : ℕ → List ℕ → Result X (ℕ × List ℕ)) (first : ℕ) where

@@ -1,10 +1,12 @@
 -- The set-up sheet: the S lines at the front of an input, then the V lines.
-use Rattle.std.specs.Prelude.{ℕ, ◌+◌, Bool, false, cond, List, [], ◌∷◌, ◌++◌, length, drop, Some, None, Ok, Err, vec_items, Option, Result, Vec, ◌==◌, nat_le, nat_lt}
+use Rattle.std.specs.Prelude.{◌≡◌, ℕ, ◌+◌, Bool, false, cond, List, [], ◌∷◌, ◌++◌, length, drop, Some, None, Ok, Err, vec_items, Option, Result, Vec, ◌==◌, nat_le, nat_lt}
 use Rattle.std.specs.declared.alloc.Global.{Global}
 use Rattle.stops.specs.Refusals.{and_then, refused}
+use Rattle.text.specs.Lines.{lines_left}
 use Rattle.text.specs.Parts.{fields}
 use Rattle.vans.specs.declared.van.Van.{Van}
 use Rattle.commands.specs.declared.setup.entry.SlotEntry.{SlotEntry}
+use Rattle.commands.specs.declared.setup.numbered.Numbered.{Numbered}
 use Rattle.commands.specs.declared.setup.refusal.SetupRefusal.{SetupRefusal}
 use Rattle.commands.specs.declared.setup.sheet.Setup.{Setup}
 use Rattle.commands.specs.Entries.{slot_entry, van_entry}
@@ -54,6 +56,10 @@ setup_of ls =
     and_then (section (checked slot_lines slot_entry) 1 (leading 83 ls)) (λ slots.
     and_then (section (checked van_lines van_entry) (1 + length slots) (leading 86 (drop (length slots) ls))) (λ vans.
     Ok (slots, vans)))
+
+-- from a to b so many lines were passed, each of which counts
+abbrev pub Passed : ℕ → Numbered → Numbered → Type 0
+Passed count a b = (lines_left b.lines ≡ drop count (lines_left a.lines)) × (b.number ≡ a.number + count)
 
 -- an answer, with its refusal by number, values and line
 abbrev pub faulted : {X : Type 0} → Result X SetupRefusal → Result X Fault

@@ -8,7 +8,7 @@ use Rattle.commands.specs.Setups.{leading}
 
 -- S open close places kept weight
 abbrev pub slot_text : SlotEntry → List ℕ
-slot_text e = spaced (codes "S") (decimal e.slot.opens ∷ (decimal e.slot.closes ∷ (decimal e.share.places ∷ (decimal e.share.kept ∷ (decimal e.weight.units ∷ [])))))
+slot_text e = spaced (codes "S") (decimal e.slot.opens ∷ (decimal e.slot.closes ∷ (decimal e.share.places ∷ (decimal e.share.kept ∷ (decimal e.weight.count ∷ [])))))
 
 -- V load start end
 abbrev pub van_text : Van → List ℕ

@@ -1,5 +1,5 @@
 -- What the fields of a line say.
-use Rattle.std.specs.Prelude.{ℕ, cond, List, [], ◌∷◌, ℤ, Some, None, Ok, Err, Option, Result, ◌==◌, slice_index_or}
+use Rattle.std.specs.Prelude.{ℕ, cond, List, [], ◌∷◌, ℤ, Some, None, Ok, Err, Option, Result, ◌==◌, option_and_then, slice_index_or}
 use Rattle.stops.specs.declared.class.Class.{Class}
 use Rattle.stops.specs.declared.class.Class.TheVariants.{Private, Trade}
 use Rattle.text.specs.Numbers.{plain, signed}
@@ -32,9 +32,7 @@ abbrev pub class_letter : ℕ → Option Class
 class_letter c = cond (c == 80) (Some Private) (cond (c == 84) (Some Trade) None)
 
 abbrev pub class_of : List ℕ → Option Class
-class_of [] = None
-class_of (c ∷ []) = class_letter c
-class_of (c ∷ d ∷ cs) = None
+class_of cs = option_and_then class_letter (only cs)
 
 -- the class in the field with this index
 abbrev pub class_at : List (List ℕ) → ℕ → Result Class (ℕ × List ℕ)

@@ -1,6 +1,6 @@
 #![tactic(auto)]
 
+pub mod fields;
 pub mod limits;
 pub mod line;
 pub mod setup;
-mod values;

@@ -1,4 +1,5 @@
 pub mod entry;
 pub mod memory;
+mod numbered;
 pub mod refusal;
 pub mod sheet;

@@ -1,4 +1,3 @@
 pub mod Stretches
-pub mod Cutting
 pub mod Sorting
 pub mod Listing

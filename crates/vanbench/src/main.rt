@@ -64,40 +64,29 @@ fn placed(fleet: &mut VanFleet, places: u32) -> Result<(), Refusal> {
 
 // The sum of all begins, which shows that another program holds the same rounds.
 fn begins(fleet: &VanFleet) -> u64 {
-    let mut sum = 0u64;
-    for n in 0..VANS * STOPS {
-        if let Some(visit) = fleet.visit(n + 1) {
-            sum = sum.saturating_add(u64::from(visit.minute));
-        }
-    }
-    sum
+    (1..=VANS * STOPS)
+        .filter_map(|number| fleet.visit(number))
+        .fold(0, |sum: u64, visit| {
+            sum.saturating_add(u64::from(visit.minute))
+        })
 }
 
-fn run(rt: &HostRuntime) -> anyhow::Result<()> {
-    let mut words = env::args(rt)?;
-    let _ = words.next();
+// The number that a word writes, or 0.
+fn number(word: Option<String>) -> u32 {
+    word.and_then(|text| text.as_str().parse().ok())
+        .unwrap_or(0)
+}
+
+fn main(rt: HostRuntime) -> anyhow::Result<()> {
+    let mut words = env::args(&rt)?.skip(1);
     let checks = number(words.next());
     let places = number(words.next());
-    let mut fleet = filled(Memory::reserve(rt.alloc())?)?;
+    let memory = Memory::reserve(rt.alloc()).map_err(Refusal::from)?;
+    let mut fleet = filled(memory)?;
     thin_out(&mut fleet)?;
     let admitted = checked(&fleet, checks)?;
     placed(&mut fleet, places)?;
     let sum = begins(&fleet);
     println!(rt; "{admitted} admitted, begins {sum}")?;
     Ok(())
-}
-
-// The number that a word writes, or 0.
-fn number(word: Option<String>) -> u32 {
-    match word {
-        Some(text) => match text.as_str().parse::<u32>() {
-            Ok(n) => n,
-            Err(_) => 0,
-        },
-        None => 0,
-    }
-}
-
-fn main(rt: HostRuntime) -> anyhow::Result<()> {
-    run(&rt)
 }

@@ -1,6 +1,5 @@
-ghost use Rattle.std.specs.Prelude.{◌≡◌, ◌<◌, [], ◌∷◌, length, IfErr};
+ghost use Rattle.std.specs.Prelude.{◌≡◌, ◌<◌, [], ◌∷◌, length, IfOk};
 ghost use mathlib.Core.List.{Perm};
-ghost use Rattle.stops.specs.Refusals.{refused};
 ghost use Rattle.calls.specs.Limits.{number_limit};
 ghost use Rattle.sheets.specs.Plans.{in_order, Ordered};
 ghost use Rattle.sheets.specs.Queued.{queued};
@@ -9,13 +8,12 @@ use crate::visits::Visits;
 use calls::limits::NUMBERS;
 use queue::queue::Queue;
 use queue::visit::PlannedVisit;
-use std::alloc::Global;
-use stops::refusal::Refusal;
+use std::alloc::{AllocError, Global};
 
 impl Visits {
-    // Memory for a visit of every number; the only refusal is want of memory.
-    pub fn reserve(heap: Global) -> Result<Visits, Refusal>
-        ensures { IfErr result (λ e. refused e ≡ (0, [])) }
+    // Memory for a visit of every number; it fails only where there is none.
+    pub fn reserve(heap: Global) -> Result<Visits, AllocError>
+        ensures { IfOk result (λ v. queued v ≡ []) }
     {
         let queue = Queue::reserve(heap, NUMBERS)?;
         let none = PlannedVisit {

@@ -1,7 +1,7 @@
-use Rattle.std.proofs.Common.{◌≡◌, ℕ, ◌+◌, ◌<◌, List, ◌∷◌, ◌++◌, length, get_or, drop, Err, sym, ap, ◌∙◌, subst, add-one, arith, length-append}
+use Rattle.std.proofs.Common.{◌≡◌, ℕ, ◌+◌, ◌<◌, List, ◌∷◌, ◌++◌, length, get_or, drop, Err, sym, ap, ◌∙◌, subst, add-one}
 use Rattle.std.proofs.lemmas.List.{drop_more, at_drop_all}
 use Rattle.std.proofs.lemmas.Result.{err_from_is_err_and}
-use Rattle.text.proofs.Growing.{Left, ended, partly, part_added, part_refused}
+use Rattle.text.proofs.Growing.{Left, ended, next_added, next_refused, partly}
 use Rattle.batch.specs.Listing.{numbered}
 use Rattle.batch.proofs.listing.list_all.Goals as goal
 
@@ -13,19 +13,18 @@ pub returns-in_err-list : goal.returns-in_err-list
 returns-in_err-list g c =
     let p = err_from_is_err_and c.from_residual.result c.from_residual.ensures.1 in
     let n = c.loop-n.n in
-    let items = c.args.items.now in
-    let line = g.T.Listed.line n c.index-items-n.result in
-    let step = ap length (at_item g.T.Listed.line items n c.index-items-n.result c.loop-n-test.true c.index-items-n.is) ∙ length-append line (numbered g.T.Listed.line (n + 1) (drop (n + 1) items)) in
-    rw (p.1, p.2) (part_refused c.args.text.now (numbered g.T.Listed.line 0 items) c.loop-n.text c.list.new.text line c.in_err-list.field-0.0 (numbered g.T.Listed.line n (drop n items)) c.loop-n.invariant (omega (arith, step)) (partly line c.loop-n.text (Err c.in_err-list.field-0.0) c.list.new.text c.in_err-list.ensures))
+    let item = c.index-items-n.result in
+    let line = g.T.Listed.line n item in
+    let step = at_item g.T.Listed.line c.args.items.now n item c.loop-n-test.true c.index-items-n.is in
+    let refused = partly line c.loop-n.text (Err c.in_err-list.field-0.0) c.list.new.text c.in_err-list.ensures in
+    rw (p.1, p.2) (next_refused c.args.text.now (numbered g.T.Listed.line 0 c.args.items.now) c.loop-n.text c.list.new.text line c.in_err-list.field-0.0 _ _ c.loop-n.invariant step refused)
 
 pub loop-n-preserved : goal.loop-n-preserved
 loop-n-preserved g c =
     let n = c.loop-n.n in
-    let items = c.args.items.now in
     let item = c.index-items-n.result in
-    let all = numbered g.T.Listed.line 0 items in
-    let step = at_item g.T.Listed.line items n item c.loop-n-test.true c.index-items-n.is in
-    part_added c.args.text.now all c.loop-n.text c.list.new.text (g.T.Listed.line n item) tt (numbered g.T.Listed.line (n + 1) (drop (n + 1) items)) (subst (λ (t : List ℕ). Left c.args.text.now all c.loop-n.text t) step c.loop-n.invariant) c.in_ok-list.ensures
+    let step = at_item g.T.Listed.line c.args.items.now n item c.loop-n-test.true c.index-items-n.is in
+    next_added c.args.text.now (numbered g.T.Listed.line 0 c.args.items.now) c.loop-n.text c.list.new.text (g.T.Listed.line n item) tt _ _ c.loop-n.invariant step c.in_ok-list.ensures
 
 pub returns : goal.returns
 returns g c =

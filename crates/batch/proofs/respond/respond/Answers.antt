@@ -1,5 +1,4 @@
-use Rattle.std.proofs.Common.{ℕ, List, ◌++◌, length, ap, ◌∙◌, subst, arith}
-use Rattle.text.specs.Written.{Wrote}
+use Rattle.std.proofs.Common.{ℕ, List, ◌++◌, length, ap, ◌∙◌, arith}
 use Rattle.batch.specs.Response.{response}
 use Rattle.batch.proofs.Responses.{read_back}
 use Rattle.batch.proofs.respond.respond.Goals as goal
@@ -10,7 +9,7 @@ returns c =
     let grown = c.in_ok-compose.ensures in
     let is = grown.1 ∙ ap (λ (t : List ℕ). t ++ response input) c.args.work.blank in
     record {
-      written = subst (λ (t : List ℕ). Wrote t c.args.out.now c.write.result c.write.new.out) is c.write.ensures;
+      written = rw is at c.write.ensures;
       short = omega (arith, ap length is, c.compose.new.text.within, c.compose.new.text.bytes.ok.0, grown.2, c.args.work.room);
       back = read_back input;
     }

@@ -1,16 +1,19 @@
-ghost use Rattle.std.specs.Prelude.{◌≡◌, ◌+◌, ◌<◌, ◌≤◌, [], drop, IfOk, vec_len, vec_capacity, OnOk};
+ghost use Rattle.std.specs.Prelude.{◌≡◌, ◌+◌, ◌<◌, ◌≤◌, [], IfOk, vec_len, OnOk};
+ghost use Rattle.stops.specs.Refusals.{coded};
 ghost use Rattle.text.specs.Lines.{lines_left};
 ghost use Rattle.text.specs.Parts.{lines};
-ghost use Rattle.commands.specs.Setups.{at_line, checked, entries, faulted, leading, listed, section, setup_of, sheet};
+ghost use Rattle.commands.specs.Setups.{Passed, checked, entries, leading, listed, section, setup_of, sheet};
 
+use crate::fields::Fields;
 use crate::limits::LINE_BYTES;
 use crate::setup::entry::SlotEntry;
 use crate::setup::entry::reads::Entry;
 use crate::setup::memory::Memory;
+use crate::setup::numbered::Numbered;
 use crate::setup::refusal::SetupRefusal;
 use crate::setup::sheet::Setup;
+use stops::blank::Blank;
 use stops::refusal::Refusal;
-use text::lines::Lines;
 use vans::van::Van;
 
 impl Setup {
@@ -19,10 +22,9 @@ impl Setup {
         ensures { sheet result ≡ setup_of (lines input.now) }
     {
         let Memory { slots, vans } = memory;
-        let mut lines = Lines::of(input);
-        let slots = read_section(slots, &mut lines, 1)?;
-        let first = 1 + slots.len() as u32;
-        let vans = read_section(vans, &mut lines, first)?;
+        let mut left = Numbered::of(input);
+        let slots = read_section(slots, &mut left)?;
+        let vans = read_section(vans, &mut left)?;
         Ok(Setup { slots, vans })
     }
 
@@ -41,73 +43,51 @@ impl Setup {
     }
 }
 
-// The entry of the line of this number, with so many of its kind before it.
-fn read_entry<T: Entry>(line: &[u8], before: u32, number: u32) -> Result<T, SetupRefusal>
-    ensures value { faulted result ≡ at_line number (checked T.Entry.most T.Entry.entry before line.now) }
-    ensures fewer { OnOk result (before < T.Entry.most) }
+// The entry of a line with so many of its kind before it.
+fn read_entry<T: Entry>(line: &[u8], before: usize) -> Result<T, Refusal>
+    ensures value { coded result ≡ checked T.Entry.MOST T.Entry.entry before line.now }
+    ensures fewer { OnOk result (before < T.Entry.MOST) }
 {
     if line.len() > LINE_BYTES {
-        return Err(SetupRefusal {
-            refusal: Refusal::TooLong,
-            line: number,
-        });
+        return Err(Refusal::TooLong);
     }
-    if before >= u32::from(T::limit()) {
-        return Err(SetupRefusal {
-            refusal: Refusal::TooManyLines,
-            line: number,
-        });
+    if before >= T::MOST {
+        return Err(Refusal::TooManyLines);
     }
-    match T::read(line) {
-        Ok(entry) => Ok(entry),
-        Err(refusal) => Err(SetupRefusal {
-            refusal,
-            line: number,
-        }),
-    }
+    T::read(&Fields::of(line))
 }
 
 // Takes the lines at the front that are of one kind; the line behind them stays.
-fn read_entries<T: Entry>(
-    mut taken: Vec<T>,
-    lines: &mut Lines,
-    first: u32,
+fn read_entries<T: Entry, const ROOM: usize>(
+    memory: Blank<T, ROOM>,
+    left: &mut Numbered<'_>,
 ) -> Result<Vec<T>, SetupRefusal>
-    requires none { vec_len taken ≡ 0 }
-    requires room { T.Entry.most ≤ vec_capacity taken }
-    requires few { first + T.Entry.most ≤ 100 }
-    ensures value { listed result ≡ entries (checked T.Entry.most T.Entry.entry) first [] (leading T.Entry.letter (lines_left lines.old)) }
-    ensures rest { IfOk result (λ v. (lines_left lines.new ≡ drop (vec_len v) (lines_left lines.old)) × (vec_len v ≤ T.Entry.most)) }
+    requires room { T.Entry.MOST ≤ ROOM }
+    requires few { left.old.number + T.Entry.MOST ≤ 100 }
+    ensures value { listed result ≡ entries (checked T.Entry.MOST T.Entry.entry) left.old.number [] (leading T.Entry.LETTER (lines_left left.old.lines)) }
+    ensures rest { IfOk result (λ v. Passed (vec_len v) left.old left.new × (vec_len v ≤ T.Entry.MOST)) }
 {
-    while let Some(line) = lines.peek() {
-        if !T::begins(line) {
-            break;
-        }
-        let count = taken.len() as u32;
-        taken.push_reserved(read_entry(line, count, first + count)?);
-        let _ = lines.next();
+    let mut taken = memory.into_list();
+    while let Some(line) = left.peek(T::LETTER) {
+        taken.push_reserved(left.at_line(read_entry(line, taken.len()))?);
+        left.pass();
     }
     Ok(taken)
 }
 
 // The same of a section, which has one line at least.
-fn read_section<T: Entry>(
-    taken: Vec<T>,
-    lines: &mut Lines,
-    first: u32,
+fn read_section<T: Entry, const ROOM: usize>(
+    memory: Blank<T, ROOM>,
+    left: &mut Numbered<'_>,
 ) -> Result<Vec<T>, SetupRefusal>
-    requires none { vec_len taken ≡ 0 }
-    requires room { T.Entry.most ≤ vec_capacity taken }
-    requires few { first + T.Entry.most ≤ 100 }
-    ensures value { listed result ≡ section (checked T.Entry.most T.Entry.entry) first (leading T.Entry.letter (lines_left lines.old)) }
-    ensures rest { IfOk result (λ v. (lines_left lines.new ≡ drop (vec_len v) (lines_left lines.old)) × (1 ≤ vec_len v) × (vec_len v ≤ T.Entry.most)) }
+    requires room { T.Entry.MOST ≤ ROOM }
+    requires few { left.old.number + T.Entry.MOST ≤ 100 }
+    ensures value { listed result ≡ section (checked T.Entry.MOST T.Entry.entry) left.old.number (leading T.Entry.LETTER (lines_left left.old.lines)) }
+    ensures rest { IfOk result (λ v. Passed (vec_len v) left.old left.new × (1 ≤ vec_len v) × (vec_len v ≤ T.Entry.MOST)) }
 {
-    let taken = read_entries(taken, lines, first)?;
+    let taken = read_entries(memory, left)?;
     if taken.is_empty() {
-        return Err(SetupRefusal {
-            refusal: Refusal::MissingLine,
-            line: first,
-        });
+        return left.at_line(Err(Refusal::MissingLine));
     }
     Ok(taken)
 }
