@@ -26,7 +26,8 @@ impl<'a> Model for Fields<'a> {
 }
 
 impl<'a> Fields<'a> {
-    pub(crate) fn of(line: &'a [u8]) -> Fields<'a>
+    // The fields of this line.
+    pub fn of(line: &'a [u8]) -> Fields<'a>
         ensures { result ≡ fields line.now }
     {
         Fields { line }
@@ -45,7 +46,8 @@ impl<'a> Fields<'a> {
         self.only(0)
     }
 
-    pub(crate) fn begins(&self, letter: char) -> bool
+    // Whether the first field is this letter.
+    pub fn begins(&self, letter: char) -> bool
         ensures { result ≡ is_letter letter (letter_of self.now) }
     {
         self.letter() == Some(letter)
