@@ -12,7 +12,7 @@ use Rattle.areas.specs.Limits.{stop_limit}
 use Rattle.areas.specs.Quotas.{quota_at, inside, count, quotas}
 
 -- 1 for a stop in an area and a slot, and 0 for any other
-abbrev one : ℕ → ℕ → Stop → ℕ
+abbrev pub one : ℕ → ℕ → Stop → ℕ
 one a i s = cond (inside a i s) 1 0
 
 -- one more stop adds what it counts
@@ -24,6 +24,10 @@ one_here a i s e = cond-true (inside a i s) 1 0 e
 
 one_there : (a i : ℕ) (s : Stop) → inside a i s ≡ false → one a i s ≡ 0
 one_there a i s e = cond-false (inside a i s) 1 0 e
+
+-- at most 1
+pub one_at_most : (a i : ℕ) (s : Stop) → one a i s ≤ 1
+one_at_most a i s = ⊎_elim (λ h. omega (arith, one_here a i s h)) (λ h. omega (arith, one_there a i s h)) (cases_Bool (inside a i s))
 
 -- a stop is in its own area and slot
 at_home : (s : Stop) → inside (area s.place) s.slot s ≡ true

@@ -2,18 +2,27 @@
 use Rattle.std.specs.Prelude.{◌≡◌, ℕ, Bool, true, false, cond, [], ◌∷◌, ◌++◌, Some, None, Option, ◌==◌, refl}
 use mathlib.Core.List.Perm
 use mathlib.Core.List.{perm_append_singleton}
-use Rattle.std.proofs.Common.{ap, ◌∙◌, arith}
+use Rattle.std.specs.List.{remove}
+use Rattle.std.proofs.Common.{subst, ap, ◌∙◌, arith}
 use Rattle.std.proofs.lemmas.Bool.{or_parts, false_from_ne_true, cond-true, cond-false, eq-eqb, false≢true}
 use Rattle.stops.specs.declared.stop.Stop.{Stop}
 use Rattle.fleet.specs.Laws.{Laws}
 use Rattle.fleet.specs.Layers.{Own, OwnLaws}
-use Rattle.fleet.specs.Loads.{Load, held, stops_of, without}
+use Rattle.fleet.specs.Loads.{First, Load, held, stops_of, without}
 use Rattle.fleet.specs.Lawful.{laws_from}
 use Rattle.areas.specs.HeldLoads.{load_holding, HoldingTheorem}
 
 no_objection : (b : Bool) → cond {A = Option ℕ} b None (Some 0) ≡ None → b ≡ true
 no_objection true e = refl
 no_objection false e = let z : ◌≡◌ {A = ℕ} 0 1 = cc in absurd (omega arith)
+
+-- the test of the list that is held
+pub tested : {Figures : Type 0} (o : Own Figures) (u : Figures) (s : Stop) (k l : Load) (b : Bool) → k ≡ l → b ≡ o.admits u (stops_of k) s → b ≡ o.admits u (stops_of l) s
+tested o u s k l b e f = f ∙ ap (λ (x : Load). o.admits u (stops_of x) s) e
+
+-- the stop at the position that was found is taken out
+pub taken_out : (n : ℕ) (k l out : Load) (i : ℕ) → k ≡ l → First n k i → out ≡ remove l i → (held n l ≡ true) × (out ≡ without n l)
+taken_out n k l out i e f g = let first = subst (λ (x : Load). First n x i) e f in (first.there, g ∙ first.rest)
 
 -- what was added at the end is taken out again
 restored : (n : ℕ) (s : Stop) (l : Load) → held n l ≡ false → without n (l ++ (n, s) ∷ []) ≡ l

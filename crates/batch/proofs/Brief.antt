@@ -22,7 +22,7 @@ use Rattle.commands.specs.Calls.{action_letter, action_of, asked, call_line, cal
 use Rattle.commands.specs.Limits.{line_bytes}
 use Rattle.commands.specs.Values.{class_at, letter_of, number_at, signed_at, valued}
 use Rattle.commands.specs.Verbs.{verb_of}
-use Rattle.commands.proofs.Called.{class_one}
+use Rattle.batch.proofs.AnyLine.{asked_fits, named_fits, code_brief}
 use Rattle.batch.specs.Heard.{answer_line, heard, refusal_line}
 
 -- ---- what is read has few figures
@@ -64,11 +64,6 @@ signed_few fs =
 -- the value has P, or what is written of the refusal is short
 abbrev Brief : {X : Type 0} → (X → Type 0) → Result X (ℕ × List ℕ) → Type 0
 Brief P r = MatchResult r P (λ e. length (refusal_line e.0 e.1) ≤ 80)
-
-code_brief : (n : ℕ) → n < 100 → length (refusal_line n []) ≤ 80
-code_brief n h =
-    let a = length-decimal-le 2 n (omega arith) (omega arith) (omega arith) in
-    simp length-append (omega arith)
 
 chosen : {X : Type 0} (P : X → Type 0) (b : Bool) (r s : Result X (ℕ × List ℕ)) → Brief P r → Brief P s → Brief P (cond b r s)
 chosen P true r s h k = h
@@ -117,12 +112,10 @@ abbrev ShortAction : Action → Type 0
 ShortAction a = (m : ℕ) → Short m → length (spaced_line (action_letter a) (words m a)) ≤ 80
 
 asked_short : (letter : ℕ) (q : Request) → ShortRequest q → (m : ℕ) → Short m → length (spaced_line (letter ∷ []) (asked m q)) ≤ 80
-asked_short letter q h m few =
-    let one = class_one q.class in
-    simp length-append (omega arith)
+asked_short letter q h m few = asked_fits (letter ∷ []) m q (omega arith) (omega arith) (omega (arith, h.0)) (omega (arith, h.1)) (omega (arith, h.2)) (omega (arith, h.3))
 
 named_short : (letter n : ℕ) → Short n → (m : ℕ) → Short m → length (spaced_line (letter ∷ []) (named m n)) ≤ 80
-named_short letter n h m few = simp length-append (omega arith)
+named_short letter n h m few = named_fits (letter ∷ []) m n (omega arith) (omega arith) (omega arith)
 
 action_brief : (fs : List (List ℕ)) (v : Verb) → Brief ShortAction (action_of fs v)
 action_brief fs verb.Offer = both ShortRequest ShortAction (request_of fs) _ (request_brief fs) (asked_short 79)

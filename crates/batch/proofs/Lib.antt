@@ -1,3 +1,4 @@
 pub mod Behind
 pub mod Responses
+pub mod AnyLine
 pub mod Brief

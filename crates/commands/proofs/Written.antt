@@ -14,7 +14,7 @@ use Rattle.commands.proofs.Entered.{slot_back, slot_begins, slot_length, van_bac
 -- ---- one kind of line: what it says, how it is written, and that this is read back
 module _ {X : Type 0} (letter most : ℕ) (entry : List (List ℕ) → Result X (ℕ × List ℕ)) (text : X → List ℕ) (head : (x : X) → begins letter (text x) ≡ true) (short : (x : X) → length (text x) ≤ line_bytes) (back : (x : X) → entry (fields (text x)) ≡ Ok x) where
   -- the lines of the kind are just those at the front
-  leading_all : (xs : List X) (rest : List (List ℕ)) → leading letter rest ≡ [] → leading letter (map text xs ++ rest) ≡ map text xs
+  pub leading_all : (xs : List X) (rest : List (List ℕ)) → leading letter rest ≡ [] → leading letter (map text xs ++ rest) ≡ map text xs
   leading_all [] rest ended = ended
   leading_all (x ∷ xs) rest ended = simp (head x, leading_all xs rest ended)
 
@@ -27,7 +27,7 @@ module _ {X : Type 0} (letter most : ℕ) (entry : List (List ℕ) → Result X 
   entries_all first taken (x ∷ xs) few =
       simp (line_checked (length taken) x (omega arith)) (entries_all first (taken ++ x ∷ []) xs (omega (arith, length-append taken (x ∷ []))) ∙ ap Ok (append_assoc taken (x ∷ []) xs))
 
-  section_all : (first : ℕ) (xs : List X) → 1 ≤ length xs → length xs ≤ most → section (checked most entry) first (map text xs) ≡ Ok xs
+  pub section_all : (first : ℕ) (xs : List X) → 1 ≤ length xs → length xs ≤ most → section (checked most entry) first (map text xs) ≡ Ok xs
   section_all first [] some few = absurd (omega arith)
   section_all first (x ∷ xs) some few = entries_all first [] (x ∷ xs) (omega arith)
 

@@ -33,14 +33,15 @@ impl<'a> Fields<'a> {
         Fields { line }
     }
 
-    pub(crate) fn count(&self) -> usize
+    // How many there are.
+    pub fn count(&self) -> usize
         ensures { result ≡ length self.now }
     {
         field_count(self.line)
     }
 
     // The letter that is the first field, if that is one byte.
-    pub(crate) fn letter(&self) -> Option<char>
+    pub fn letter(&self) -> Option<char>
         ensures { result ≡ letter_of self.now }
     {
         self.only(0)
@@ -54,21 +55,21 @@ impl<'a> Fields<'a> {
     }
 
     // The number in the field with this index.
-    pub(crate) fn number(&self, index: u8) -> Result<u32, Refusal>
+    pub fn number(&self, index: u8) -> Result<u32, Refusal>
         ensures { coded result ≡ number_at self.now index }
     {
-        plain_number(self.field(index)).ok_or(Refusal::BadField(index))
+        plain_number(self.field(usize::from(index))).ok_or(Refusal::BadField(index))
     }
 
     // The same, which may have a minus sign.
-    pub(crate) fn signed(&self, index: u8) -> Result<i32, Refusal>
+    pub fn signed(&self, index: u8) -> Result<i32, Refusal>
         ensures { coded result ≡ signed_at self.now index }
     {
-        signed_number(self.field(index)).ok_or(Refusal::BadField(index))
+        signed_number(self.field(usize::from(index))).ok_or(Refusal::BadField(index))
     }
 
     // The class in the field with this index.
-    pub(crate) fn class(&self, index: u8) -> Result<Class, Refusal>
+    pub fn class(&self, index: u8) -> Result<Class, Refusal>
         ensures { coded result ≡ class_at self.now index }
     {
         self.only(index)
@@ -76,17 +77,18 @@ impl<'a> Fields<'a> {
             .ok_or(Refusal::BadField(index))
     }
 
-    fn field(&self, index: u8) -> &'a [u8]
+    // The field with this index, or an empty one.
+    pub fn field(&self, index: usize) -> &'a [u8]
         ensures { result.now ≡ slice_index_or self.now index [] }
     {
-        field(self.line, usize::from(index))
+        field(self.line, index)
     }
 
     // The field with this index as a character, if it is one byte.
     fn only(&self, index: u8) -> Option<char>
         ensures { result ≡ only (slice_index_or self.now index []) }
     {
-        match self.field(index) {
+        match self.field(usize::from(index)) {
             [b] => Some(char::from(*b)),
             _ => None,
         }

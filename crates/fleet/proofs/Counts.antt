@@ -3,7 +3,7 @@ use Rattle.std.proofs.Common.{◌≡◌, ℕ, ◌+◌, ◌*◌, min, ◌<◌, �
 use mathlib.Core.List.{Perm}
 use Rattle.std.proofs.lemmas.List.{take_more, map-append, length-map}
 use Rattle.std.proofs.lemmas.List.Sums.{sum_by-cons, sum_by_push}
-use Rattle.std.proofs.lemmas.Bool.{cond-false, ne_eqb}
+use Rattle.std.proofs.lemmas.Bool.{cond-true, cond-false, eq-eqb, ne_eqb}
 use Rattle.std.proofs.lemmas.Bool.Decides.{nat_tests}
 use Rattle.stops.specs.declared.class.Class.TheVariants.{Private, Trade}
 use Rattle.stops.specs.declared.stop.Stop.{Stop}
@@ -36,6 +36,10 @@ shown_cons s l i t one r k p q u a b d =
     (omega (arith, ap (λ (y : Tally). y.privates) k, sum_by-cons (one_private i) s l))
     (omega (arith, ap (λ (y : Tally). y.trades) k, sum_by-cons (one_trade i) s l))
     (omega (arith, ap (λ (y : Tally). y.units) k, sum_by-cons (slot_units i) s l))
+
+-- a stop counts its units in its own slot
+pub units_here : (s : Stop) → slot_units s.slot s ≡ s.units
+units_here s = cond-true (eqb s.slot s.slot) s.units 0 (eq-eqb s.slot s.slot refl)
 
 one_elsewhere : (s : Stop) (i : ℕ) → eqb s.slot i ≡ false → (one_private i s ≡ 0) × (one_trade i s ≡ 0)
 one_elsewhere s i e = elim s.class as (λ k. (◌≡◌ {A = ℕ} (elim k [ Private ↦ cond (eqb s.slot i) 1 0 | Trade ↦ 0 ]) 0) × (◌≡◌ {A = ℕ} (elim k [ Private ↦ 0 | Trade ↦ cond (eqb s.slot i) 1 0 ]) 0))
@@ -73,7 +77,7 @@ tallied_few (s ∷ l) i =
     )
 
 -- one more stop of a load
-sum_more : (f : Stop → ℕ) (l : Load) (i : ℕ) (x : ℕ × Stop) → i < length l → x ≡ get_or l i x → sum_by f (stops_of (take (i + 1) l)) ≡ sum_by f (stops_of (take i l)) + f x.1
+pub sum_more : (f : Stop → ℕ) (l : Load) (i : ℕ) (x : ℕ × Stop) → i < length l → x ≡ get_or l i x → sum_by f (stops_of (take (i + 1) l)) ≡ sum_by f (stops_of (take i l)) + f x.1
 sum_more f l i x h e = rw (take_more l i x h, map-append (λ (p : ℕ × Stop). p.1) (take i l) (get_or l i x ∷ []), sum_by_push f (stops_of (take i l)) (get_or l i x).1, ← e) refl
 
 -- one turn of a loop that sums up

@@ -11,7 +11,7 @@ use Rattle.fleet.proofs.Slotwise.{slotwise_laws}
 use Rattle.layers.specs.declared.rules.byslot.BySlot.{BySlot}
 use Rattle.layers.specs.SlotRules.{SlotRule, SlotLaws}
 use Rattle.layers.specs.BySlots.{figures_at, by_slot}
-use Rattle.layers.specs.OwnRules.{share_rule, weight_rule}
+use Rattle.layers.specs.OwnRules.{share_rule, reserve, weight_rule, weight}
 
 pub by_slot_laws : {Figures : Type 0} (w : SlotRule Figures) → SlotLaws w → OwnLaws (slotwise (by_slot w))
 by_slot_laws w l = slotwise_laws (by_slot w) (record {
@@ -26,12 +26,19 @@ share_laws = record {
   shows = λ h t k. omega (arith, h.few);
 }
 
-pub weight_laws : SlotLaws weight_rule
-weight_laws = record {
+pub limit_laws : SlotLaws weight_rule
+limit_laws = record {
   nothing = λ h. omega arith;
   rises = λ h a b p t u. u;
   shows = λ h t k. omega (arith, h.few);
 }
+
+-- so both own rules keep the laws
+pub reserve_laws : OwnLaws (slotwise reserve)
+reserve_laws = by_slot_laws share_rule share_laws
+
+pub weight_laws : OwnLaws (slotwise weight)
+weight_laws = by_slot_laws weight_rule limit_laws
 
 -- what is shown of the counts decides
 shown_decides : {Figures : Type 0} (w : SlotRule Figures) → SlotLaws w → (h : Figures) (t : Tally) → nat_le (w.used h (shown t)) (w.room h) ≡ nat_le (w.used h t) (w.room h)

@@ -1,12 +1,20 @@
 -- Laws of the records: reading one by its number, changing one state, adding one.
-use Rattle.std.proofs.Common.{◌≡◌, ℕ, zero, suc, ◌-◌, ◌<◌, ◌≤◌, false, ◌⊎◌, List, [], ◌∷◌, ◌++◌, length, get_or, set, Some, Ok, refl, ap, inl, inr, arith}
+use Rattle.std.proofs.Common.{◌≡◌, ℕ, zero, suc, ◌-◌, ◌<◌, ◌≤◌, false, ◌⊎◌, List, [], ◌∷◌, ◌++◌, length, get_or, set, Some, None, Ok, refl, sym, subst, ap, inl, inr, arith}
+use Rattle.std.proofs.lemmas.Option.{slice_get_read, slice_get_past}
 use Rattle.offers.specs.declared.change.Change.{Change}
 use Rattle.calls.specs.declared.record.Record.{Record}
 use Rattle.calls.specs.declared.state.State.{State}
 use Rattle.calls.specs.declared.state.State.TheVariants.{Open}
 use Rattle.calls.proofs.Marks.{placed_at}
 use Rattle.offers.specs.Changes.{changed}
-use Rattle.calls.specs.Records.{state_at, state_of, mark, is_open}
+use Rattle.calls.specs.Records.{record_of, state_at, state_of, mark, is_open}
+
+-- the record of a number that was given, and that there is none past the last
+pub record_read : (rs : List Record) (n j : ℕ) (r : Record) → n ≡ suc j → j < length rs → r ≡ get_or rs j r → Some r ≡ record_of rs n
+record_read rs n j r e h w = subst (λ k. Some r ≡ record_of rs k) (sym e) (sym (slice_get_read rs (length rs) j r refl h w))
+
+pub record_past : (rs : List Record) (n j : ℕ) → n ≡ suc j → length rs ≤ j → None ≡ record_of rs n
+record_past rs n j e h = subst (λ k. None ≡ record_of rs k) (sym e) (sym (slice_get_past rs j h))
 
 -- a number that was given
 pub given : (rs : List Record) (n : ℕ) (s : State) → state_of rs n ≡ Some s → (1 ≤ n) × (n - 1 < length rs)

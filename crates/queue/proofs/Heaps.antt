@@ -1,5 +1,5 @@
--- What std's calls do to a heap of entries, which has them with their order turned round.
-use Rattle.std.proofs.Common.{◌≡◌, ℕ, List, [], ◌∷◌, map, length, get_or, Some, Ok, Err, Result, Ordering, sym, refl, ap, ◌∙◌, subst, arith, true≢false, IsOk, OnOk, IfSome, IfNone, None, Option, Bor, heap_items, heap_len}
+-- A heap of entries: its first one, and what std's calls do to it, which has the entries with their order turned round.
+use Rattle.std.proofs.Common.{◌≡◌, ℕ, zero, suc, ◌+◌, ◌*◌, ◌<◌, ◌≤◌, Bool, true, false, ⊎_elim, List, [], ◌∷◌, map, length, get_or, Some, Ok, Err, Result, Ordering, sym, refl, ap, ◌∙◌, subst, arith, true≢false, IsOk, OnOk, IfSome, IfNone, None, Option, Bor, heap_items, heap_len}
 use mathlib.Core.List.Perm
 use mathlib.Core.List.{Perm}
 use lib.ListN.{length-map, get_or-map}
@@ -8,14 +8,40 @@ use Rattle.std.specs.BinaryHeap as std
 use Rattle.std.specs.Cmp.{IsTotalOrder}
 use Rattle.std.specs.List.Sorted.{IsPermutation}
 use Rattle.std.specs.Option.{option_map}
+use Rattle.std.proofs.lemmas.List.MinMax.{ranks_by}
+use Rattle.std.proofs.ByRecursion.{All-from_get_or}
+use Rattle.std.proofs.lemmas.Bool.{cases_lt}
 use Rattle.std.proofs.lemmas.Option.{none-some, same_Some}
 use Rattle.std.specs.declared.cmp.Ord as Ord
 use Rattle.std.specs.declared.cmp.PartialEq as PartialEq
 use Rattle.std.specs.declared.cmp.PartialOrd as PartialOrd
 use Rattle.queue.specs.declared.queue.Queue.{Queue}
 use Rattle.queue.specs.Queues.{Taken}
-use Rattle.queue.specs.Orders.{Heaped, Least, FirstOf}
+use Rattle.queue.specs.Orders.{Heaped, Least, NotAfter, FirstOf}
 use Rattle.queue.proofs.Permuted.{perm_from_shuffled}
+
+-- ---- the first entry
+parent : (k : ℕ) → (p : ℕ) × (p * 2 ≤ k) × (k ≤ p * 2 + 1)
+parent zero = (0, omega arith, omega arith)
+parent (suc k) = let h = parent k in ⊎_elim (λ a. (h.0, omega (arith, h.1), omega arith)) (λ a. (h.0 + 1, omega (arith, h.2), omega (arith, h.2))) (cases_lt k (h.0 * 2 + 1))
+
+never : (b : Bool) → (b ≡ true → b ≡ false) → b ≡ false
+never true h = h refl
+never false h = refl
+
+module _ {X : Type 0} {R : X → X → Ordering} (o : IsTotalOrder R) where
+  -- from an entry up to the first one, in at most as many steps as its place
+  climbs : (xs : List X) (d : X) → Heaped o xs → (steps k : ℕ) → k ≤ steps → k < length xs → NotAfter o (get_or xs 0 d) (get_or xs k d)
+  climbs xs d h steps zero a b = never _ ((ranks_by o (λ x. x)).one_way (get_or xs 0 d) (get_or xs 0 d))
+  climbs xs d h zero (suc k) a b = absurd (omega arith)
+  climbs xs d h (suc steps) (suc k) a b =
+      let p = parent k in
+      let up = climbs xs d h steps p.0 (omega (arith, p.1)) (omega (arith, p.1)) in
+      (ranks_by o (λ x. x)).chain (get_or xs (suc k) d) (get_or xs p.0 d) (get_or xs 0 d) (h (p.0, suc k, d) (omega (arith, p.1), omega (arith, p.2), b)) up
+
+  -- it is a least one, whatever call the heap came from
+  pub first_least : (xs : List X) (x : X) → x ≡ get_or xs 0 x → Heaped o xs → Least o x xs
+  first_least xs x e h = All-from_get_or (NotAfter o x) xs x (λ k b. subst (λ y. NotAfter o y (get_or xs k x)) (sym e) (climbs xs x h k k (omega arith) b))
 
 -- nothing at all is a heap
 pub none_heaped : {X : Type 0} {R : X → X → Ordering} (xs : List X) → xs ≡ [] → (o : IsTotalOrder R) → Heaped o xs

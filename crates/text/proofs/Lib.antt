@@ -1,4 +1,5 @@
 pub mod Split
+pub mod Counted
 pub mod Parted
 pub mod Digits
 pub mod Growing

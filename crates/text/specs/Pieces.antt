@@ -1,12 +1,13 @@
--- A line put together from words and numbers.
+-- A line put together from words, bytes and numbers.
 use Rattle.std.specs.Prelude.{ℕ, List, [], ◌∷◌, ◌++◌, decimal}
 use Rattle.std.specs.Fmt.{signed_decimal}
 use Rattle.text.specs.declared.piece.Piece.{Piece}
-use Rattle.text.specs.declared.piece.Piece.TheVariants.{Word, Number, Signed}
+use Rattle.text.specs.declared.piece.Piece.TheVariants.{Word, Bytes, Number, Signed}
 
 -- what is written of a piece
 abbrev pub piece : Piece → List ℕ
 piece (Word w) = w.now
+piece (Bytes b) = b.now
 piece (Number n) = decimal n
 piece (Signed z) = signed_decimal z
 

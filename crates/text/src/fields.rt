@@ -8,9 +8,15 @@ pub fn field(line: &[u8], index: usize) -> &[u8]
     line.split(|b| *b == b' ').nth(index).unwrap_or(&[])
 }
 
-// How many fields a line has.
+// How many fields a line has, one more than its spaces. A loop, since it was the fastest of three forms.
 pub fn field_count(line: &[u8]) -> usize
     ensures { result ≡ length (fields line.now) }
 {
-    line.split(|b| *b == b' ').count()
+    let mut count = 0;
+    for b in line {
+        if *b == b' ' {
+            count += 1;
+        }
+    }
+    count + 1
 }

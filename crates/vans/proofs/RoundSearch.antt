@@ -1,7 +1,7 @@
 -- The search for the cheapest position in one round.
 use Rattle.std.proofs.Common.{◌≡◌, ℕ, ◌+◌, ◌<◌, ◌≤◌, List, [], ◌∷◌, ◌++◌, length, get_or, take, drop, vec_items, slice_index, None, Option, sym, refl, ap, ◌∙◌, subst, arith}
 use Rattle.std.specs.List.{insert}
-use Rattle.std.proofs.lemmas.List.{drop_all, drop_more, length-map, take_more, take-append-drop}
+use Rattle.std.proofs.lemmas.List.{drop_all, length-map, take_more, take-append-drop}
 use Rattle.std.proofs.lemmas.List.Edits.{length-insert}
 use Rattle.std.proofs.lemmas.List.Sums.{sum_by-append, sum_by-cons, sum_by-take-drop}
 use Rattle.stops.specs.declared.place.Place.{Place}
@@ -21,7 +21,7 @@ use Rattle.vans.specs.Insertions.{Best, Insertable, arrival, latest, leaving}
 use Rattle.vans.specs.Limits.{stop_limit}
 use Rattle.vans.specs.Rounds.{Lawful, OnTime, added_travel, begin, begins, detour, last_place, next_place, total_units}
 use Rattle.vans.specs.OnTime.{rest_on_time, by_latest, latest_end, insertion_exact}
-use Rattle.vans.specs.RoundFacts.{round_on_time, visit_stop}
+use Rattle.vans.specs.RoundFacts.{next_more, round_on_time, visit_stop}
 use Rattle.vans.specs.Least.{least_more, least_same, offers_like}
 
 -- the cheapest for a stop s among the first n positions of a round, as far as time goes
@@ -36,10 +36,10 @@ leaving_push : (v : Van) (k : List Stop) (x : Stop) (p : Place) (t : ℕ) → le
 leaving_push v [] x p t = refl
 leaving_push v (y ∷ k) x p t = leaving_push v k x _ _
 
-last_place_more : (l : List Stop) (i : ℕ) (x : Stop) → i < length l → ((d : Stop) → x ≡ get_or l i d) → x.place ≡ last_place depot (take (i + 1) l)
+pub last_place_more : (l : List Stop) (i : ℕ) (x : Stop) → i < length l → ((d : Stop) → x ≡ get_or l i d) → x.place ≡ last_place depot (take (i + 1) l)
 last_place_more l i x h e = ap (λ (s : Stop). s.place) (e x) ∙ sym (ap (last_place depot) (take_more l i x h) ∙ last_push (take i l) (get_or l i x) depot)
 
-leaving_more : (v : Van) (l : List Stop) (i : ℕ) (x : Stop) (p : Place) (t : ℕ) → i < length l → ((d : Stop) → x ≡ get_or l i d) → p ≡ last_place depot (take i l) → t ≡ leaving v depot v.start (take i l) → begin v p t x + service v x ≡ leaving v depot v.start (take (i + 1) l)
+pub leaving_more : (v : Van) (l : List Stop) (i : ℕ) (x : Stop) (p : Place) (t : ℕ) → i < length l → ((d : Stop) → x ≡ get_or l i d) → p ≡ last_place depot (take i l) → t ≡ leaving v depot v.start (take i l) → begin v p t x + service v x ≡ leaving v depot v.start (take (i + 1) l)
 leaving_more v l i x p t h e ep et =
     let m : take (i + 1) l ≡ take i l ++ x ∷ [] = take_more l i x h ∙ ap (λ (s : Stop). take i l ++ s ∷ []) (sym (e x)) in
     simp (ep, et) (sym (ap (leaving v depot v.start) m ∙ leaving_push v (take i l) x depot v.start))
@@ -63,7 +63,7 @@ module _ (v : Van) (l : List Stop) (s : Stop) (g : OnTime v depot v.start l) whe
   parts : (i : ℕ) → OnTime v depot v.start (take i l ++ drop i l)
   parts i = subst (OnTime v depot v.start) (sym (take-append-drop i l)) g
 
-  leaving_day : (i : ℕ) → leaving v depot v.start (take i l) ≤ last_minute
+  pub leaving_day : (i : ℕ) → leaving v depot v.start (take i l) ≤ last_minute
   leaving_day i =
       omega (arith, by_latest v (drop i l) _ _ (rest_on_time v (take i l) (drop i l) depot v.start (parts i)), latest_end v (drop i l), v.day)
 
@@ -90,7 +90,7 @@ module _ (r : Round) (i : ℕ) (x : ℕ × Stop) (d : Departure) (h : i < length
 
   pub arrives : (b : ℕ) → b ≡ latest r.van (drop i (stops_in r)) → record { to = x.1.place; by = b } ≡ arrival r.van (drop i (stops_in r))
   arrives b m =
-      let n = ap next_place (drop_more (stops_in r) i x.1 within) ∙ ap (λ (s : Stop). s.place) (sym (stop_there x.1)) in
+      let n = next_more (stops_in r) i x.1 within ∙ ap (λ (s : Stop). s.place) (sym (stop_there x.1)) in
       ap (λ y. record { to = x.1.place; by = y }) m ∙ ap (λ (p : Place). record { to = p; by = latest r.van (drop i (stops_in r)) }) (sym n)
 
   pub begin_there : (n : ℕ) → n ≡ begin r.van d.from d.minute x.1 → n ≡ slice_index (begins r.van depot r.van.start (stops_in r)) i

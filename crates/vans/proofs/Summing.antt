@@ -14,7 +14,7 @@ use Rattle.vans.specs.Fleets.{rounds_in, rounds_of, stops_in}
 use Rattle.vans.specs.Rule.{load_of}
 
 -- a sum over the stops of one round more
-load_more : (f : Stop → ℕ) (rs : List Round) (i : ℕ) (r : Round) → i < length rs → r ≡ get_or rs i r → sum_by f (stops_of (load_of (take (i + 1) (rounds_in rs)))) ≡ sum_by f (stops_of (load_of (take i (rounds_in rs)))) + sum_by f (stops_in r)
+pub load_more : (f : Stop → ℕ) (rs : List Round) (i : ℕ) (r : Round) → i < length rs → r ≡ get_or rs i r → sum_by f (stops_of (load_of (take (i + 1) (rounds_in rs)))) ≡ sum_by f (stops_of (load_of (take i (rounds_in rs)))) + sum_by f (stops_in r)
 load_more f rs i r h e = ap (λ n. sum_by f (stops_of (load_of (take n (rounds_in rs))))) (add-one i) ∙ go rs i h e
   where
     split : (k l : Load) → sum_by f (stops_of (k ++ l)) ≡ sum_by f (stops_of k) + sum_by f (stops_of l)

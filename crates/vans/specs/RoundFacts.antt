@@ -1,13 +1,13 @@
 -- What holds of a round, and of lists of visits.
-use Rattle.std.specs.Prelude.{◌≡◌, ℕ, suc, ◌<◌, ◌≤◌, List, [], ◌∷◌, ◌++◌, length, take, drop, vec_items, vec_len, vec_capacity, slice_index_or}
+use Rattle.std.specs.Prelude.{◌≡◌, ℕ, suc, ◌+◌, ◌<◌, ◌≤◌, List, [], ◌∷◌, ◌++◌, length, get_or, take, drop, vec_items, vec_len, vec_capacity, slice_index_or}
 use Rattle.std.proofs.Common.{sym, ap, subst, ◌∙◌, add-one, arith}
 use Rattle.std.proofs.Math.Logic.{∥∥₁_elim}
 use mathlib.Core.HLevel.{×_prop}
 use Rattle.std.proofs.Math.Bridge.{le_prop}
 use Rattle.std.specs.List.{insert, remove}
-use Rattle.std.proofs.lemmas.List.{drop_more, get_or-map, map-append, take-map, drop-map, take-append-drop, length-map, length-append}
+use Rattle.std.proofs.lemmas.List.{drop_more, drop_all, get_or-map, map-append, take-map, drop-map, take-append-drop, length-map, length-append}
 use Rattle.std.proofs.lemmas.List.Edits.{length-insert}
-use Rattle.std.proofs.lemmas.List.Sums.{sum_by-append, sum_by-cons}
+use Rattle.std.proofs.lemmas.List.Sums.{sum_by-append, sum_by-cons, sum_by_more, sum_by-take-le}
 use Rattle.stops.specs.declared.place.Place.{Place}
 use Rattle.stops.specs.declared.stop.Stop.{Stop}
 use Rattle.stops.specs.Places.{depot}
@@ -15,7 +15,8 @@ use Rattle.fleet.specs.Loads.{Load, stops_of}
 use Rattle.vans.specs.declared.van.Van.{Van}
 use Rattle.vans.specs.declared.round.Round.{Round}
 use Rattle.vans.specs.Fleets.{stops_in}
-use Rattle.vans.specs.Rounds.{Lawful, OnTime}
+use Rattle.vans.specs.Insertions.{latest, latest_begin}
+use Rattle.vans.specs.Rounds.{Lawful, OnTime, next_place, total_units}
 use Rattle.vans.specs.FigureLaws.{travel_self, window_prop}
 use Rattle.vans.specs.OnTime.{on_time_without}
 
@@ -30,11 +31,28 @@ known v l p t h = ∥∥₁_elim h (on_time_prop v l p t) (λ g. g)
 pub empty_on_time : (v : Van) → OnTime v depot v.start []
 empty_on_time v = omega (arith, travel_self v depot)
 
+pub next_more : (l : List Stop) (i : ℕ) (d : Stop) → i < length l → next_place (drop i l) ≡ (get_or l i d).place
+next_more l i d h = ap next_place (drop_more l i d h)
+
+pub next_all : (l : List Stop) (i : ℕ) → length l ≤ i → next_place (drop i l) ≡ depot
+next_all l i h = ap next_place (drop_all i l h)
+
 pub stops_inserted : (l : Load) (i : ℕ) (x : ℕ × Stop) → stops_of (insert l i x) ≡ insert (stops_of l) i x.1
 stops_inserted l i x = simp (map-append, take-map, drop-map)
 
 pub stops_removed : (l : Load) (i : ℕ) → stops_of (remove l i) ≡ remove (stops_of l) i
 stops_removed l i = simp (map-append, take-map, drop-map)
+
+pub units_more : (l : List Stop) (i : ℕ) (x : Stop) → i < length l → ((d : Stop) → x ≡ slice_index_or l i d) → total_units (take (i + 1) l) ≡ total_units (take i l) + x.units
+units_more l i x h e = sum_by_more (λ (s : Stop). s.units) l i x h ∙ ap (λ (s : Stop). total_units (take i l) + s.units) (sym (e x))
+
+pub units_front : (l : List Stop) (i : ℕ) → total_units (take i l) ≤ total_units l
+units_front l i = sum_by-take-le (λ (s : Stop). s.units) l i
+
+-- the latest begins, from the last position back
+pub latest_more : (v : Van) (l : List Stop) (i : ℕ) (x : Stop) → i < length l → ((d : Stop) → x ≡ slice_index_or l i d) → latest v (drop i l) ≡ latest_begin v x (next_place (drop (i + 1) l)) (latest v (drop (i + 1) l))
+latest_more v l i x h e =
+    ap (latest v) (drop_more l i x h) ∙ ap (λ (y : Stop). latest_begin v y (next_place (drop (i + 1) l)) (latest v (drop (i + 1) l))) (sym (e x))
 
 pub round_length : (r : Round) → length (stops_in r) ≡ vec_len r.visits
 round_length r = length-map (vec_items r.visits) (λ (x : ℕ × Stop). x.1) ∙ sym r.visits.ok.0

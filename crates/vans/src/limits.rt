@@ -9,5 +9,8 @@ pub const VANS: usize = 8;
 // The most stops of a round.
 pub const STOPS: usize = 24;
 
+// The positions of the longest round and, behind them, the return to the depot.
+pub const POSITIONS: usize = STOPS + 1;
+
 // The minutes of service at a stop.
 pub const SERVICE: u16 = 6;

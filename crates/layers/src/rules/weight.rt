@@ -1,5 +1,5 @@
 ghost use Rattle.layers.specs.OwnRules.{weight_rule};
-ghost use Rattle.layers.specs.Tested.{weight_laws};
+ghost use Rattle.layers.specs.Tested.{limit_laws};
 
 use crate::rules::byslot::{BySlot, SlotFigures};
 use crate::weight::WeightLimit;
@@ -15,7 +15,7 @@ pub type Weighed<F> = Layer<Weight, F>;
 impl SlotFigures for WeightLimit {
     ghost rule = { weight_rule };
 
-    ghost lawful = { weight_laws };
+    ghost lawful = { limit_laws };
 
     fn allows(self, tally: Tally) -> bool {
         tally.units <= u32::from(self.count)

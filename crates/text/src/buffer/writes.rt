@@ -75,6 +75,7 @@ impl Buffer {
     {
         match part {
             Piece::Word(word) => self.add(word.as_bytes()),
+            Piece::Bytes(bytes) => self.add(bytes),
             Piece::Number(n) => self.add_number(n),
             Piece::Signed(z) => self.add_signed(z),
         }
